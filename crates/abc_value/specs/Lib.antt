@@ -1,0 +1,4 @@
+pub mod Text
+pub mod Scalars
+pub mod Sets
+pub mod Values
