@@ -1,18 +1,34 @@
 //! Values and their total operators.
 #![tactic(auto)]
 
+mod laws;
 mod list;
+mod literal;
 mod memory;
+mod number;
 mod ops;
+mod quoted;
+mod read;
 mod scalar;
+mod scalar_read;
 mod set;
 mod text;
 mod value;
 
+pub use laws::{
+    differences, least_free_numbers, literals_differ, members_are_ordered, members_stand,
+    same_is_equality, set_operators, sets_are_their_members, sets_of_lists, unions,
+    written_is_read,
+};
 pub use list::List;
+pub use literal::{ValueRefusal, write_value};
 pub use memory::NoMemory;
-pub use ops::{add, holds, least_free, less, mul, same, size, sub};
+pub use ops::{add, holds, least_free, less, mul, same, set_of, size, sub, union, without};
+pub use read::read_value;
 pub use scalar::Scalar;
-pub use set::SetValue;
+pub use set::{MOST_MEMBERS, SetValue};
 pub use text::ShortText;
 pub use value::{Value, View};
+
+#[cfg(test)]
+mod tests;

@@ -1,7 +1,7 @@
-use Rattle.std.proofs.Common.{◌≡◌, ◌∙◌, sym, subst, true, false, ap, arith, length}
+use Rattle.std.proofs.Common.{◌∙◌, sym, subst, ap, arith}
 use Rattle.std.specs.List.{slice_get}
-use Rattle.std.proofs.lemmas.Grind.{common_steps}
-use Rattle.abc_pred.specs.Maps.{IsMap, stands_at, count_below}
+use Rattle.abc_pred.specs.Maps.{IsMap}
+use Rattle.abc_pred.specs.Places.{stands_at, count_below}
 use Rattle.abc_pred.proofs.Entry.{over, between, within, stands-within, rises-with}
 use Rattle.abc_pred.proofs.env.put.Goals as goal
 
@@ -28,7 +28,7 @@ returns-then-stands-clause-ok c =
     sym o
 
 pub returns-clause-map : goal.returns-clause-map
-returns-clause-map c = λ m. subst IsMap (sym (returns-clause-ok c)) (rises-with 0 c.args.name c.args.value c.args.entries.now.items (omega arith) m)
+returns-clause-map c = subst IsMap (sym (returns-clause-ok c)) (rises-with 0 c.args.name c.args.value c.args.entries.now.items c.requires.kept (omega arith) c.requires.map)
 
 pub returns-then-stands-clause-map : goal.returns-then-stands-clause-map
-returns-then-stands-clause-map c = λ m. subst IsMap (sym (returns-then-stands-clause-ok c)) (rises-with 0 c.args.name c.args.value c.args.entries.now.items (omega arith) m)
+returns-then-stands-clause-map c = subst IsMap (sym (returns-then-stands-clause-ok c)) (rises-with 0 c.args.name c.args.value c.args.entries.now.items c.requires.kept (omega arith) c.requires.map)

@@ -1,6 +1,7 @@
-use Rattle.std.proofs.Common.{◌≡◌, ◌∙◌, sym, subst, true, false, ap}
+use Rattle.std.proofs.Common.{◌∙◌, sym, subst, ap}
 use Rattle.std.specs.List.{slice_get}
-use Rattle.abc_pred.specs.Maps.{IsMap, stands_at, count_below}
+use Rattle.abc_pred.specs.Maps.{IsMap}
+use Rattle.abc_pred.specs.Places.{stands_at, count_below}
 use Rattle.abc_pred.proofs.Entry.{out, none, rises-without}
 use Rattle.abc_pred.proofs.env.remove.Goals as goal
 
@@ -18,4 +19,4 @@ returns-else-stands-clause-removed c =
     (ap (λ l. stands_at c.args.name (slice_get l c.place-at.result)) (sym c.deref-2.ensures.value) ∙ sym c.stands.ensures ∙ c.if-stands.false))
 
 pub returns-then-stands-clause-map : goal.returns-then-stands-clause-map
-returns-then-stands-clause-map c = λ m. subst IsMap (sym (returns-then-stands-clause-removed c)) (rises-without 0 c.args.name c.args.entries.now.items m)
+returns-then-stands-clause-map c = subst IsMap (sym (returns-then-stands-clause-removed c)) (rises-without 0 c.args.name c.args.entries.now.items c.requires)

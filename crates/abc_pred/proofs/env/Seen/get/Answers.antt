@@ -1,6 +1,6 @@
-use Rattle.std.proofs.Common.{◌≡◌, ◌∙◌, ap, sym, if◌then◌else◌}
+use Rattle.std.proofs.Common.{◌∙◌, ap, sym, if◌then◌else◌}
 use Rattle.abc_value.specs.declared.value.Value.TheVariants.{Nothing}
-use Rattle.abc_pred.specs.Maps.{look_up, lists}
+use Rattle.abc_pred.specs.Maps.{look_up}
 use Rattle.abc_pred.specs.Seeing.{cut}
 use Rattle.abc_pred.proofs.Shown.{look_up-shown}
 use Rattle.abc_pred.proofs.env.Seen.get.Goals as goal

@@ -1,0 +1,8 @@
+use Rattle.std.proofs.Common.{◌≡◌, ◌++◌, drop, map}
+use Rattle.abc_pred.specs.Meaning.{val}
+use Rattle.abc_pred.specs.Standing.{operand_of}
+use Rattle.abc_pred.proofs.meaning.values.Given as goal
+
+abbrev pub invariant-loop-operand : goal.invariant-loop-operand
+invariant-loop-operand l =
+    l.values.items ++ map (λ o. val (operand_of o) l.own l.own l.vars) (drop l.operand-index l.operands) ≡ map (λ o. val (operand_of o) l.own l.own l.vars) l.operands

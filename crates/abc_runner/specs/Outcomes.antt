@@ -1,0 +1,50 @@
+-- What a call of `run` owes its sink, and how the writing of it ends.
+use Rattle.std.specs.Prelude.{ℕ, ◌≡◌, ◌<◌, ◌≤◌, ◌⊎◌, ◌↔◌, List, length, take, Option, Some, None, string_bytes, ⊤}
+use Rattle.std.specs.Io.KnownBytes.{Appends, Consumes}
+use Rattle.abc_io.specs.Devices.{Rose}
+use Rattle.abc_runner.specs.declared.command.Command.{Command}
+use Rattle.abc_runner.specs.declared.command.Command.TheVariants.{Solo, Other}
+use Rattle.abc_runner.specs.declared.status.Status.{Status}
+use Rattle.abc_runner.specs.declared.status.Status.TheVariants.{Done, BadWords, Unbuilt, TooLong, ReadFault, WriteFault, NoMemory}
+use Rattle.abc_runner.specs.declared.limits.TheConstants.{MOST_SOURCE}
+use Rattle.abc_runner.specs.Statuses.{line_of}
+
+-- the status where a write fault comes after some bytes of what is due: want of memory alone stays
+abbrev pub cut_short : Status → ℕ → Status
+cut_short NoMemory written = NoMemory
+cut_short _ written = WriteFault written
+
+-- The text `due` of the status `whole` was due to a sink. It was written whole, and the status is that one; or the sink's
+-- count of faults rose, a proper front of the text was written, and the status says how much.
+abbrev pub Ends : Status → List ℕ → Status → ℕ → ℕ → Option (List ℕ) → Option (List ℕ) → Type 0
+Ends whole due status faults faults' told told' =
+    ((status ≡ whole) × Appends told told' due)
+    ⊎ ((written : ℕ) × (status ≡ cut_short whole written) × Rose faults faults' × (written < length due) × Appends told told' (take written due))
+
+-- the line of a refusal was due
+abbrev pub EndsAs : Status → Status → ℕ → ℕ → Option (List ℕ) → Option (List ℕ) → Type 0
+EndsAs refusal = Ends refusal (line_of refusal)
+
+-- a refusal whose line the sink has gained whole
+abbrev pub IsRefusal : Status → Type 0
+IsRefusal BadWords = ⊤
+IsRefusal Unbuilt = ⊤
+IsRefusal TooLong = ⊤
+IsRefusal ReadFault = ⊤
+IsRefusal _ = ⊥
+
+-- the statuses of a call of `solo` whose source was read whole, and whose devices didn't fail
+abbrev pub IsTextStatus : Status → Type 0
+IsTextStatus Done = ⊤
+IsTextStatus Unbuilt = ⊤
+IsTextStatus NoMemory = ⊤
+IsTextStatus _ = ⊥
+
+-- a fact of the bytes that were written before a write fault
+abbrev pub IfWriteFault : Status → (ℕ → Type 0) → Type 0
+IfWriteFault (WriteFault written) P = P written
+IfWriteFault _ P = ⊤
+
+abbrev pub IsSolo : Option Command → Type 0
+IsSolo (Some (Solo limit pick)) = ⊤
+IsSolo _ = ⊥

@@ -1,0 +1,14 @@
+//! The top call: words, a source and a sink to an outcome.
+#![tactic(auto)]
+
+mod answer;
+mod command;
+mod first;
+mod limits;
+mod status;
+mod top;
+
+pub use command::Command;
+pub use limits::MOST_SOURCE;
+pub use status::Status;
+pub use top::{Outcome, run};

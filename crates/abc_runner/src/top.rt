@@ -1,0 +1,155 @@
+ghost use Rattle.std.specs.Prelude.{◌≡◌, ◌<◌, ◌≤◌, ◌↔◌, ◌⊎◌, ℕ, List, length, Some, None, IsErrOf, IfErr, OnErr, OnOk, take};
+ghost use Rattle.std.specs.Io.KnownBytes.{Appends, IsAtEnd};
+ghost use Rattle.abc_io.specs.Devices.{Rose};
+ghost use Rattle.abc_io.specs.Whole.{HasRead};
+ghost use Rattle.abc_runner.specs.Commands.{command_in};
+ghost use Rattle.abc_runner.specs.Statuses.{line_of};
+ghost use Rattle.abc_runner.specs.Outcomes.{Ends, EndsAs, IfWriteFault, IsRefusal, IsSolo, IsTextStatus, cut_short};
+ghost use Rattle.abc_runner.specs.Answers.{whole_of, due_of, IsAnswer, IsSoloAnswer, IsTextAnswer};
+
+use crate::answer::Answer;
+use crate::command::Command;
+use crate::first::{Stop, read_text, write_trace};
+use crate::limits::MOST_SOURCE;
+use crate::status::Status;
+use abc_io::{ReadRefusal, Sink, Source, read_all, write_whole};
+use abc_value::NoMemory;
+use std::alloc::Global;
+
+/// How a call of `run` ended.
+#[derive(Clone, Copy, Debug, PartialEq, Eq)]
+pub struct Outcome {
+    pub status: Status,
+}
+
+/// Runs the command of the words: it reads the source, and writes what the command prints or the
+/// line of its refusal. The whole text is made before its first byte is written. Want of memory is
+/// the one free answer.
+pub fn run<S: Source, K: Sink>(
+    alloc: Global,
+    words: &[String],
+    source: &mut S,
+    sink: &mut K,
+) -> Outcome
+    // The words. Of words that are no command, or a command that is not built, nothing is read.
+    ensures bad_words { command_in words.now ≡ None
+        → EndsAs Status.BadWords result.status
+        (K.fault_count sink.old) (K.fault_count sink.new) (K.told sink.old) (K.told sink.new) }
+    ensures bad_words_only { result.status ≡ Status.BadWords → command_in words.now ≡ None }
+    ensures other { command_in words.now ≡ Some Command.Other
+        → EndsAs Status.Unbuilt result.status
+        (K.fault_count sink.old) (K.fault_count sink.new) (K.told sink.old) (K.told sink.new) }
+    ensures unread { IsSolo (command_in words.now) ⊎ (source.new ≡ source.old) }
+
+    // The source.
+    ensures read_fault { result.status ≡ Status.ReadFault
+        → IsSolo (command_in words.now) × Rose (S.fault_count source.old) (S.fault_count source.new) }
+    ensures too_long_only { result.status ≡ Status.TooLong → IsSolo (command_in words.now) }
+    ensures too_long { IsSolo (command_in words.now)
+        → HasRead (S.left source.old) (S.left source.new) (λ read.
+        (result.status ≡ Status.TooLong → MOST_SOURCE < length read)
+        × (MOST_SOURCE < length read → EndsAs Status.TooLong result.status
+        (K.fault_count sink.old) (K.fault_count sink.new) (K.told sink.old) (K.told sink.new))) }
+    ensures done { result.status ≡ Status.Done
+        → IsSolo (command_in words.now) × IsAtEnd (S.left source.new) }
+
+    // The sink. What was due is the line of a refusal, or a text.
+    ensures line { IsRefusal result.status
+        → Appends (K.told sink.old) (K.told sink.new) (line_of result.status) }
+    ensures write_fault { IfWriteFault result.status (λ written.
+        Rose (K.fault_count sink.old) (K.fault_count sink.new)
+        × (due : List ℕ) × (written < length due)
+        × Appends (K.told sink.old) (K.told sink.new) (take written due)) }
+    ensures no_memory { result.status ≡ Status.NoMemory
+        → IsSolo (command_in words.now) × EndsAs Status.NoMemory result.status
+        (K.fault_count sink.old) (K.fault_count sink.new) (K.told sink.old) (K.told sink.new) }
+
+    // With no fault, a source of at most the allowed bytes gives a text, or a form of it is not
+    // built yet.
+    ensures complete { IsSolo (command_in words.now)
+        → ¬ (Rose (S.fault_count source.old) (S.fault_count source.new))
+        → ¬ (Rose (K.fault_count sink.old) (K.fault_count sink.new))
+        → HasRead (S.left source.old) (S.left source.new) (λ read.
+        length read ≤ MOST_SOURCE → IsTextStatus result.status) }
+{
+    let answer = answer(alloc, words, source);
+    let status = write_answer(sink, &answer);
+    Outcome { status }
+}
+
+fn write_answer<K: Sink>(sink: &mut K, answer: &Answer) -> Status
+    ensures { Ends (whole_of answer.now) (due_of answer.now) result
+        (K.fault_count sink.old) (K.fault_count sink.new) (K.told sink.old) (K.told sink.new) }
+{
+    match write_whole(sink, due(answer)) {
+        Ok(()) => whole(answer),
+        Err(fault) => cut_short(whole(answer), fault.written),
+    }
+}
+
+fn due(answer: &Answer) -> &[u8]
+    ensures { result.now ≡ due_of answer.now }
+{
+    match answer {
+        Answer::Text(text) => text.as_bytes(),
+        Answer::Refusal(status) => status.line(),
+    }
+}
+
+fn whole(answer: &Answer) -> Status
+    ensures { result ≡ whole_of answer.now }
+{
+    match answer {
+        Answer::Text(_) => Status::Done,
+        Answer::Refusal(status) => *status,
+    }
+}
+
+fn cut_short(whole: Status, written: usize) -> Status
+    ensures { result ≡ cut_short whole written }
+{
+    match whole {
+        Status::NoMemory => Status::NoMemory,
+        _ => Status::WriteFault { written },
+    }
+}
+
+fn answer<S: Source>(alloc: Global, words: &[String], source: &mut S) -> Answer
+    ensures answers { IsAnswer (command_in words.now) result
+        (S.fault_count source.old) (S.fault_count source.new) (S.left source.old) (S.left source.new) }
+    ensures unread { IsSolo (command_in words.now) ⊎ (source.new ≡ source.old) }
+{
+    match Command::read(words) {
+        None => Answer::Refusal(Status::BadWords),
+        Some(Command::Other) => Answer::Refusal(Status::Unbuilt),
+        Some(Command::Solo { limit, pick }) => solo(alloc, source, limit, pick),
+    }
+}
+
+/// The trace of the source's text, or why there is none.
+fn solo<S: Source>(alloc: Global, source: &mut S, limit: u32, pick: u64) -> Answer
+    ensures { IsSoloAnswer result
+        (S.fault_count source.old) (S.fault_count source.new) (S.left source.old) (S.left source.new) }
+{
+    match read_all(alloc, source, MOST_SOURCE) {
+        Ok(bytes) => solo_text(alloc, bytes.as_slice(), limit, pick),
+        Err(ReadRefusal::Fault) => Answer::Refusal(Status::ReadFault),
+        Err(ReadRefusal::TooLong) => Answer::Refusal(Status::TooLong),
+        Err(ReadRefusal::NoMemory) => Answer::Refusal(Status::NoMemory),
+    }
+}
+
+/// The trace of a text, whose bytes these are.
+fn solo_text(alloc: Global, bytes: &[u8], limit: u32, pick: u64) -> Answer
+    ensures { IsTextAnswer result }
+{
+    let text = match read_text(alloc, bytes) {
+        Ok(text) => text,
+        Err(Stop::Unbuilt) => return Answer::Refusal(Status::Unbuilt),
+        Err(Stop::NoMemory) => return Answer::Refusal(Status::NoMemory),
+    };
+    match write_trace(alloc, text, limit, pick) {
+        Ok(trace) => Answer::Text(trace),
+        Err(NoMemory) => Answer::Refusal(Status::NoMemory),
+    }
+}

@@ -1,0 +1,12 @@
+pub mod Guards
+pub mod SpeakingPlaces
+pub mod HearingPlaces
+pub mod Meant
+pub mod Steps
+pub mod ExampleSteps
+pub mod MapsStay
+pub mod Bindings
+pub mod ColouringSteps
+pub mod Unfolding
+pub mod Chains
+pub mod ByNumber

@@ -1,0 +1,10 @@
+-- Worked examples: small systems, and the steps that they can and can't make, each proved by computing the definitions.
+pub mod Writing
+pub mod Greeting
+pub mod HiddenAttribute
+pub mod LabelBeforeUpdate
+pub mod ThisInPredicate
+pub mod Interleaving
+pub mod GuardOpened
+pub mod Overflow
+pub mod Colouring

@@ -1,0 +1,9 @@
+pub mod Processes
+pub mod Substitution
+pub mod Speaking
+pub mod Hearing
+pub mod Systems
+pub mod Guarded
+pub mod Standing
+pub mod Laws
+pub mod Examples
