@@ -1,0 +1,10 @@
+pub mod Parts
+pub mod Variables
+pub mod Sites
+pub mod Scopes
+pub mod Reaching
+pub mod Graphs
+pub mod Measures
+pub mod Tables
+pub mod Facts
+pub mod CheckedLaws

@@ -1,0 +1,26 @@
+//! The checks of a program: what a program must be free of before it runs.
+#![tactic(auto)]
+
+mod calls;
+mod causes;
+mod checking;
+mod counts;
+mod cycles;
+mod facts;
+mod laws;
+mod limits;
+mod measures;
+mod parts;
+mod places;
+mod search;
+mod sites;
+mod unknown;
+mod variables;
+
+pub use causes::{CheckCause, CheckRefusal, Site};
+pub use checking::check;
+pub use laws::{calls_have_bodies, checked_calls_end, widths_are_small};
+pub use limits::{BROADEST, MOST_COMPONENTS, WIDEST};
+
+#[cfg(test)]
+mod tests;

@@ -1,0 +1,4 @@
+pub mod Scoped
+pub mod Same
+pub mod Unfolded
+pub mod Reading

@@ -1,0 +1,16 @@
+use Rattle.std.proofs.Common.{◌∙◌, List, [], ap, subst}
+use Rattle.abc_pred.specs.declared.names.Name.{Name}
+use Rattle.abc_pred.specs.Maps.{ListsTheSame}
+use Rattle.abc_term.specs.Standing.{process_of, set_all}
+use Rattle.abc_term.specs.Substitution.{put}
+use Rattle.abc_term.proofs.Bindings.{putting_nothing}
+use Rattle.abc_moves.proofs.component.started.Goals as goal
+
+pub returns-clause-component : goal.returns-clause-component
+returns-clause-component c =
+    let P = process_of c.args.component.now.run in
+    record {
+      env = c.in_ok-env.ensures ∙ ap (λ es. set_all es []) c.as_slice.ensures;
+      interface = subst (λ (names : List Name). ListsTheSame c.in_ok-interface.interface names) c.as_slice-2.ensures c.in_ok-interface.ensures.names;
+      process = ap (λ w. put w P) c.empty.ensures ∙ putting_nothing P;
+    }

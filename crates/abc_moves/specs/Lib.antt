@@ -1,0 +1,7 @@
+pub mod Scopes
+pub mod Walks
+pub mod Bodies
+pub mod Trees
+pub mod Labels
+pub mod Hears
+pub mod Lives

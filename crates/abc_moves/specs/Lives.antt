@@ -1,0 +1,29 @@
+-- The component and the program that a live component stands for.
+use Rattle.std.specs.Prelude.{◌≡◌, ℕ, Some, slice_get}
+use Rattle.abc_pred.specs.Maps.{ListsTheSame}
+use Rattle.abc_term.specs.declared.terms.Program.{Program}
+use Rattle.abc_term.specs.declared.terms.Component.{Component}
+use Rattle.abc_term.specs.Standing.{definitions_of, component_of}
+use Rattle.abc_term.specs.Speaking.{Label, Speaks}
+use Rattle.abc_term.specs.Processes as term
+use Rattle.abc_moves.specs.declared.live.Live.{Live}
+use Rattle.abc_moves.specs.Trees.{process_in}
+
+abbrev pub component_in : Live → term.Component
+component_in l = record { env = l.env; interface = l.interface; process = process_in l.tree }
+
+abbrev pub definitions_in : Live → term.Definitions
+definitions_in l = definitions_of l.program.now.definitions
+
+-- The component of this number as the program begins with it. Of its interface it matters only what it lists.
+pub record BeginsAs (first now : term.Component) : Type 0 where
+  pub env : now.env ≡ first.env
+  pub interface : ListsTheSame now.interface first.interface
+  pub process : now.process ≡ first.process
+
+abbrev pub StartsAs : Program → ℕ → term.Component → Type 0
+StartsAs program i now = (C : Component) → slice_get program.components i ≡ Some C → BeginsAs (component_of C) now
+
+-- The output at this place has this label.
+abbrev pub IsSaid : term.Definitions → term.Component → ℕ → Label → Type 0
+IsSaid defs C place l = (C' : term.Component) × Speaks defs C place l C'

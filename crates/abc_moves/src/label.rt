@@ -1,0 +1,13 @@
+use abc_pred::{Env, Pred};
+use abc_value::{List, Value};
+
+/// What a multicast carries.
+#[derive(Drop)]
+pub struct Label {
+    /// The sender's attributes that others may see, as they were before the output's updates.
+    pub shown: Env,
+    /// Whom it is meant for: the output's predicate, closed by the sender.
+    pub pred: Pred,
+    /// The values of the output's tuple.
+    pub values: List<Value>,
+}

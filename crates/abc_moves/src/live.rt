@@ -1,0 +1,17 @@
+use crate::tree::Tree;
+use abc_pred::{Env, Interface};
+use abc_term::Program;
+use std::alloc::Global;
+
+/// A component as it runs: its environment, its interface, and its process as a tree of parallel leaves.
+///
+/// Each leaf is a part of the program with bindings beside it. Contracts see the component of the rules
+/// that it stands for. It keeps the allocator.
+#[derive(Drop)]
+pub struct Live<'p> {
+    pub(crate) alloc: Global,
+    pub(crate) program: &'p Program,
+    pub(crate) env: Env,
+    pub(crate) interface: Interface,
+    pub(crate) tree: Tree<'p>,
+}

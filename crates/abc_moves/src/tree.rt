@@ -1,0 +1,52 @@
+ghost use Rattle.std.specs.Prelude.{◌≡◌, IfOk};
+
+use crate::scope::Scope;
+use abc_term::Process;
+use abc_value::NoMemory;
+use std::alloc::Global;
+
+/// The parallel leaves of a component, as its `|`s join them.
+#[derive(Drop)]
+pub enum Tree<'p> {
+    /// A part of the program, in which the variables of the scope have its values.
+    Leaf(&'p Process, Scope),
+    /// One of the two moves, and the other stays.
+    Par(Box<Tree<'p>>, Box<Tree<'p>>),
+}
+
+impl<'p> Tree<'p> {
+    ghost use Rattle.abc_term.specs.Processes.{Par};
+    ghost use Rattle.abc_term.specs.Standing.{process_of};
+    ghost use Rattle.abc_term.specs.Substitution.{put};
+    ghost use Rattle.abc_moves.specs.Trees.{process_in};
+
+    /// A part of the program, with bindings of its own.
+    pub fn leaf(alloc: Global, p: &'p Process, scope: &Scope) -> Result<Tree<'p>, NoMemory>
+        ensures { IfOk result (λ t. process_in t ≡ put scope.now (process_of p.now)) }
+    {
+        Ok(Tree::Leaf(p, scope.copy(alloc)?))
+    }
+
+    /// Two trees side by side.
+    pub fn pair(alloc: Global, l: Tree<'p>, r: Tree<'p>) -> Result<Tree<'p>, NoMemory>
+        ensures { IfOk result (λ t. process_in t ≡ Par (process_in l.entry) (process_in r.entry)) }
+    {
+        let left = Box::new(alloc, l)?;
+        let right = Box::new(alloc, r)?;
+        Ok(Tree::Par(left, right))
+    }
+
+    /// The same leaves, with bindings of their own.
+    pub fn copy(&self, alloc: Global) -> Result<Tree<'p>, NoMemory>
+        ensures { IfOk result (λ t. process_in t ≡ process_in self.now) }
+    {
+        match self {
+            Tree::Leaf(p, scope) => Tree::leaf(alloc, p, scope),
+            Tree::Par(l, r) => {
+                let l = l.copy(alloc)?;
+                let r = r.copy(alloc)?;
+                Tree::pair(alloc, l, r)
+            }
+        }
+    }
+}

@@ -1,0 +1,4 @@
+pub mod TextLens
+pub mod Scans
+pub mod TextBytes
+pub mod Numbering

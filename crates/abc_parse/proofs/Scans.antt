@@ -1,0 +1,23 @@
+-- A step of the reader of tokens.
+use Rattle.std.proofs.Common.{◌≡◌, ℕ, ◌+◌, List, [], ◌∷◌, ◌++◌, length, drop, take, Option, Some, None, refl, sym, ap, ◌∙◌, subst, append_assoc, append-nil, arith}
+use Rattle.abc_text.specs.declared.lexical.Before.{Before}
+use Rattle.abc_text.specs.declared.lexical.Token.{Token}
+use Rattle.abc_text.specs.declared.lexical.Fault.{Fault}
+use Rattle.abc_text.specs.declared.lexical.Next.TheVariants.{End, Good, Bad}
+use Rattle.abc_text.specs.Tokens.{skip, next, stands_after, IsNext, IsRead, Reads}
+
+-- what is left reads on from the tokens that were found
+abbrev pub ReadsOn : List ℕ → List Token → Before → List ℕ → Type 0
+ReadsOn bytes found before rest = (ts : List Token) (fault : Option Fault) → IsRead (length bytes) before rest ts fault → Reads bytes (found ++ ts) fault
+
+pub reads_on : (bytes : List ℕ) (found : List Token) (before : Before) (rest : List ℕ) (t : Token)
+    → ReadsOn bytes found before rest → IsNext (length bytes) before rest t
+    → ReadsOn bytes (found ++ t ∷ []) (stands_after before t.kind (take t.len (skip rest))) (drop t.len (skip rest))
+reads_on bytes found before rest t on here ts fault h = subst (λ (us : List Token). Reads bytes us fault) (sym (append_assoc found (t ∷ []) ts)) (on (t ∷ ts) fault (here, h))
+
+pub reads_end : (bytes : List ℕ) (found : List Token) (before : Before) (rest : List ℕ) → ReadsOn bytes found before rest → next before (skip rest) ≡ End → Reads bytes found None
+reads_end bytes found before rest on e = subst (λ (us : List Token). Reads bytes us None) (append-nil found) (on [] None e)
+
+pub reads_bad : (bytes : List ℕ) (found : List Token) (before : Before) (rest : List ℕ) (fault : Fault) → ReadsOn bytes found before rest
+    → next before (skip rest) ≡ Bad fault.cause → fault.place + length (skip rest) ≡ length bytes → Reads bytes found (Some fault)
+reads_bad bytes found before rest fault on e p = subst (λ (us : List Token). Reads bytes us (Some fault)) (append-nil found) (on [] (Some fault) (e, p))

@@ -1,0 +1,10 @@
+pub mod Forward
+pub mod Reading
+pub mod Following
+pub mod Spelled
+pub mod Alone
+pub mod Standing
+pub mod OfKind
+pub mod ReadBack
+pub mod Growing
+pub mod WorkedThrough

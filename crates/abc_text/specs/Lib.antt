@@ -1,0 +1,5 @@
+pub mod Tokens
+pub mod Meanings
+pub mod Spelling
+pub mod Laws
+pub mod Worked

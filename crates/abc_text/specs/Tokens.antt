@@ -1,0 +1,219 @@
+-- The tokens of a text, the first layer of the concrete text. Bytes are numbers; the comment at each
+-- test shows the characters that it is of.
+use Rattle.std.specs.Prelude.{◌≡◌, ℕ, ◌+◌, ◌-◌, ◌*◌, ◌^◌, ◌==◌, Bool, true, false, not, ◌||◌, ◌&&◌, nat_le, nat_lt, if◌then◌else◌, List, [], ◌∷◌, length, take_while, take, drop, fold, codes, Option, Some, None}
+use Rattle.std.specs.List.{list_any}
+use Rattle.std.specs.Str.{bytes_eq}
+use Rattle.abc_text.specs.declared.lexical.TokenKind.{TokenKind}
+use Rattle.abc_text.specs.declared.lexical.TokenKind.TheVariants.{Word, Variable, Number, Text, Symbol}
+use Rattle.abc_text.specs.declared.lexical.Cause.{Cause}
+use Rattle.abc_text.specs.declared.lexical.Cause.TheVariants.{BadByte, BadText, LongText, LongName, WideNumber}
+use Rattle.abc_text.specs.declared.lexical.Before.{Before}
+use Rattle.abc_text.specs.declared.lexical.Before.TheVariants.{Open, Operand, Sign}
+use Rattle.abc_text.specs.declared.lexical.Next.{Next}
+use Rattle.abc_text.specs.declared.lexical.Next.TheVariants.{End, Good, Bad}
+use Rattle.abc_text.specs.declared.lexical.Token.{Token}
+use Rattle.abc_text.specs.declared.lexical.Fault.{Fault}
+
+-- ---- bytes
+-- space, tab, carriage return, line feed
+abbrev pub is_blank : ℕ → Bool
+is_blank b = (b == 32) || (b == 9) || (b == 13) || (b == 10)
+
+-- A to Z, a to z
+abbrev pub is_letter : ℕ → Bool
+is_letter b = (nat_le 65 b && nat_le b 90) || (nat_le 97 b && nat_le b 122)
+
+-- 0 to 9
+abbrev pub is_digit : ℕ → Bool
+is_digit b = nat_le 48 b && nat_le b 57
+
+-- a letter, a digit or _
+abbrev pub is_word_byte : ℕ → Bool
+is_word_byte b = is_letter b || is_digit b || (b == 95)
+
+-- ( ) * + , - . are 40 to 46; then ; < = ? @ [ ] { | }
+abbrev pub is_symbol : ℕ → Bool
+is_symbol b = (nat_le 40 b && nat_le b 46) || (nat_le 59 b && nat_le b 61) || (nat_le 63 b && nat_le b 64) || (b == 91) || (b == 93) || (nat_le 123 b && nat_le b 125)
+
+-- " and \
+abbrev pub is_quote_mark : ℕ → Bool
+is_quote_mark b = (b == 34) || (b == 92)
+
+-- a byte that a text may hold
+abbrev pub is_printable : ℕ → Bool
+is_printable b = nat_le 32 b && nat_le b 126
+
+-- ---- between tokens
+-- What is left after blanks and comments; the flag says that a comment is open. A comment runs from
+-- # to the byte before the next line feed, or to the end.
+abbrev pub skip_from : Bool → List ℕ → List ℕ
+skip_from inside [] = []
+skip_from true (b ∷ bs) = skip_from (not (b == 10)) bs
+skip_from false (b ∷ bs) = if b == 35 then skip_from true bs else (if is_blank b then skip_from false bs else b ∷ bs)
+
+unfoldable pub skip : List ℕ → List ℕ
+skip bytes = skip_from false bytes
+
+-- ---- words
+abbrev pub keywords : List (List ℕ)
+keywords =
+    codes "abc" ∷ (codes "and" ∷ (codes "comp" ∷ (codes "def" ∷ (codes "false" ∷ (codes "ff" ∷ (codes "free"
+    ∷ (codes "in" ∷ (codes "none" ∷ (codes "not" ∷ (codes "or" ∷ (codes "run" ∷ (codes "set" ∷ (codes "show"
+    ∷ (codes "size" ∷ (codes "this" ∷ (codes "true" ∷ (codes "tt" ∷ (codes "union" ∷ (codes "when"
+    ∷ (codes "without" ∷ []))))))))))))))))))))
+
+unfoldable pub is_keyword : List ℕ → Bool
+is_keyword word = list_any (λ k. bytes_eq k word) keywords
+
+-- the keywords that are literals
+abbrev pub literal_words : List (List ℕ)
+literal_words = codes "false" ∷ (codes "none" ∷ (codes "true" ∷ []))
+
+unfoldable pub is_literal_word : List ℕ → Bool
+is_literal_word word = list_any (λ k. bytes_eq k word) literal_words
+
+-- the longest run of the bytes of a word
+abbrev pub word_len : List ℕ → ℕ
+word_len bytes = length (take_while is_word_byte bytes)
+
+-- a word of at most 32 bytes
+abbrev pub word_token : List ℕ → Next
+word_token bytes = if nat_le (word_len bytes) 32 then Good Word (word_len bytes) else Bad LongName
+
+-- what stands behind a $: a word
+abbrev pub variable_token : List ℕ → Next
+variable_token [] = Bad BadByte
+variable_token (b ∷ bs) =
+    if is_letter b then (if nat_le (word_len (b ∷ bs)) 32 then Good Variable (word_len (b ∷ bs) + 1) else Bad LongName)
+    else Bad BadByte
+
+-- ---- numbers
+-- the number that digits write; leading zeros are allowed
+abbrev pub decimal : List ℕ → ℕ
+decimal digits = fold (λ n b. n * 10 + (b - 48)) 0 digits
+
+-- the greatest number is 2^63 after a sign and one less elsewhere
+abbrev pub greatest : Before → ℕ
+greatest Sign = 2 ^ 63
+greatest Open = 2 ^ 63 - 1
+greatest Operand = 2 ^ 63 - 1
+
+-- the longest run of digits
+unfoldable pub number_token : Before → List ℕ → Next
+number_token before bytes =
+    if nat_le (decimal (take_while is_digit bytes)) (greatest before)
+    then Good Number (length (take_while is_digit bytes))
+    else Bad WideNumber
+
+-- ---- texts
+-- one more byte of a length, where there is one
+abbrev pub one_more : Option ℕ → Option ℕ
+one_more None = None
+one_more (Some n) = Some (n + 1)
+
+-- Behind the opening quote: how many bytes there are up to and with the closing quote. None where it
+-- isn't closed or has a bad byte or a bad escape. The flag says that a backslash stands before.
+abbrev pub text_len : Bool → List ℕ → Option ℕ
+text_len escape [] = None
+text_len true (b ∷ bs) = if is_quote_mark b then one_more (text_len false bs) else None
+text_len false (b ∷ bs) =
+    if b == 34 then Some 1
+    else (if b == 92 then one_more (text_len true bs)
+    else (if is_printable b then one_more (text_len false bs) else None))
+
+-- The bytes that a text stands for, from behind its opening quote: those up to the closing quote,
+-- without the backslashes before " and \.
+abbrev pub text_value : Bool → List ℕ → List ℕ
+text_value escape [] = []
+text_value true (b ∷ bs) = b ∷ text_value false bs
+text_value false (b ∷ bs) =
+    if b == 34 then [] else (if b == 92 then text_value true bs else b ∷ text_value false bs)
+
+-- a text of at most 64 bytes, by the number of bytes behind the opening quote
+abbrev pub closed_text : ℕ → Option ℕ → Next
+closed_text size None = Bad BadText
+closed_text size (Some n) = if nat_le size 64 then Good Text (n + 1) else Bad LongText
+
+unfoldable pub text_token : List ℕ → Next
+text_token bytes = closed_text (length (text_value false bytes)) (text_len false bytes)
+
+-- ---- the next token
+-- the two bytes :=, by what stands behind the :
+abbrev pub colon_token : List ℕ → Next
+colon_token [] = Bad BadByte
+colon_token (b ∷ bs) = if b == 61 then Good Symbol 2 else Bad BadByte
+
+-- the token at the front, by its first byte: a letter, $, a digit, ", a symbol, :
+abbrev pub token_at : Before → List ℕ → Next
+token_at before [] = End
+token_at before (b ∷ bs) =
+    if is_letter b then word_token (b ∷ bs)
+    else (if b == 36 then variable_token bs
+    else (if is_digit b then number_token before (b ∷ bs)
+    else (if b == 34 then text_token bs
+    else (if is_symbol b then Good Symbol 1
+    else (if b == 58 then colon_token bs else Bad BadByte)))))
+
+unfoldable pub next : Before → List ℕ → Next
+next before bytes = token_at before bytes
+
+-- ---- signs
+-- a token that may end an operand: a name, a variable, a number, a text, false, none, true, ) or }
+abbrev pub ends_operand : TokenKind → List ℕ → Bool
+ends_operand Word word = not (is_keyword word) || is_literal_word word
+ends_operand Variable spelling = true
+ends_operand Number spelling = true
+ends_operand Text spelling = true
+ends_operand Symbol spelling = bytes_eq spelling (codes ")") || bytes_eq spelling (codes "}")
+
+abbrev pub is_minus : TokenKind → List ℕ → Bool
+is_minus Symbol spelling = bytes_eq spelling (codes "-")
+is_minus Word spelling = false
+is_minus Variable spelling = false
+is_minus Number spelling = false
+is_minus Text spelling = false
+
+-- a - is a sign where no operand may end before it
+abbrev pub is_sign : Before → TokenKind → List ℕ → Bool
+is_sign Operand kind spelling = false
+is_sign Open kind spelling = is_minus kind spelling
+is_sign Sign kind spelling = is_minus kind spelling
+
+-- what stands before the next token, after a token of this kind and spelling
+unfoldable pub stands_after : Before → TokenKind → List ℕ → Before
+stands_after before kind spelling =
+    if ends_operand kind spelling then Operand else (if is_sign before kind spelling then Sign else Open)
+
+-- ---- the tokens of a text
+-- The first token of these bytes, which reach to the end of a text of `size` bytes.
+pub record IsNext (size : ℕ) (before : Before) (bytes : List ℕ) (t : Token) : Type 0 where
+  pub token : next before (skip bytes) ≡ Good t.kind t.len
+  pub place : t.place + length (skip bytes) ≡ size
+
+-- its bytes, and what is left behind it
+abbrev pub spelled : List ℕ → Token → List ℕ
+spelled bytes t = take t.len (skip bytes)
+
+abbrev pub left : List ℕ → Token → List ℕ
+left bytes t = drop t.len (skip bytes)
+
+-- The bytes are these tokens one after another, and then the text ends or the first bad token comes.
+abbrev pub IsRead : ℕ → Before → List ℕ → List Token → Option Fault → Type 0
+IsRead size before bytes [] None = next before (skip bytes) ≡ End
+IsRead size before bytes [] (Some fault) =
+    (next before (skip bytes) ≡ Bad fault.cause) × (fault.place + length (skip bytes) ≡ size)
+IsRead size before bytes (t ∷ ts) fault =
+    IsNext size before bytes t
+    × IsRead size (stands_after before t.kind (spelled bytes t)) (left bytes t) ts fault
+
+-- the whole text: nothing stands before its first token
+abbrev pub Reads : List ℕ → List Token → Option Fault → Type 0
+Reads bytes ts fault = IsRead (length bytes) Open bytes ts fault
+
+-- the whole text is these tokens
+abbrev pub AreTokens : List ℕ → List Token → Type 0
+AreTokens bytes ts = Reads bytes ts None
+
+-- some tokens are good, and the next is bad for this cause
+abbrev pub IsFirstBad : List ℕ → Fault → Type 0
+IsFirstBad bytes fault = (ts : List Token) × Reads bytes ts (Some fault)

@@ -1,0 +1,14 @@
+//! The concrete text of a program, as definitions: what its tokens are.
+//!
+//! The reader of texts and the printer both stand on this crate, so that neither stands on the other.
+//! The definitions are in `specs/`; the types here are what they speak of.
+#![tactic(auto)]
+
+mod laws;
+mod lexical;
+
+pub use laws::{
+    named_have_numbers, names_stay, one_reading, spelled_is_read, spellings, tokens_stand,
+    worked_tokens,
+};
+pub use lexical::{Before, Cause, Fault, Next, Token, TokenKind};
