@@ -124,20 +124,15 @@ never_cut None a f f' l l' i written h = let e : BadWords ≡ WriteFault written
 never_cut (Some (Solo limit pick)) a f f' l l' i written h = never_cut_after a f f' l' i.0 i.2 written h
 never_cut (Some Other) a f f' l l' i written h = let e : Unbuilt ≡ WriteFault written = subst (λ b. whole_of b ≡ WriteFault written) i h in cc
 
--- what a write fault says, whatever was due
-fault_after : (whole s : Status) (due : List ℕ) (k k' : ℕ) (t t' : Option (List ℕ)) → ((written : ℕ) → whole ≡ WriteFault written → ⊥) → Ends whole due s k k' t t'
-    → IfWriteFault s (λ written. Rose k k' × (due : List ℕ) × (written < length due) × Appends t t' (take written due))
-fault_after whole s due k k' t t' never (inl e) =
-    let P : ℕ → Type 0 = λ written. Rose k k' × (due : List ℕ) × (written < length due) × Appends t t' (take written due) in
-    subst (λ s. IfWriteFault s P) (sym e.0) (not_cut whole P never)
-fault_after whole s due k k' t t' never (inr e) =
-    let P : ℕ → Type 0 = λ written. Rose k k' × (due : List ℕ) × (written < length due) × Appends t t' (take written due) in
-    subst (λ s. IfWriteFault s P) (sym e.1) (cut whole e.0 P (e.2, due, e.3, e.4))
-
 module _ (w : Option Command) (a : Answer) (s : Status) (f f' : ℕ) (l l' : Option (List ℕ)) (k k' : ℕ) (t t' : Option (List ℕ)) where
   pub write_fault : IsAnswer w a f f' l l' → Ends (whole_of a) (due_of a) s k k' t t'
-      → IfWriteFault s (λ written. Rose k k' × (due : List ℕ) × (written < length due) × Appends t t' (take written due))
-  write_fault i e = fault_after (whole_of a) s (due_of a) k k' t t' (never_cut w a f f' l l' i) e
+      → IfWriteFault s (λ written. Rose k k' × (answer : Answer) × IsAnswer w answer f f' l l' × (written < length (due_of answer)) × Appends t t' (take written (due_of answer)))
+  write_fault i (inl e) =
+      let P : ℕ → Type 0 = λ written. Rose k k' × (answer : Answer) × IsAnswer w answer f f' l l' × (written < length (due_of answer)) × Appends t t' (take written (due_of answer)) in
+      subst (λ s. IfWriteFault s P) (sym e.0) (not_cut (whole_of a) P (never_cut w a f f' l l' i))
+  write_fault i (inr e) =
+      let P : ℕ → Type 0 = λ written. Rose k k' × (answer : Answer) × IsAnswer w answer f f' l l' × (written < length (due_of answer)) × Appends t t' (take written (due_of answer)) in
+      subst (λ s. IfWriteFault s P) (sym e.1) (cut (whole_of a) e.0 P (e.2, a, i, e.3, e.4))
 
   pub too_long : IsAnswer w a f f' l l' → Ends (whole_of a) (due_of a) s k k' t t' → IsSolo w
       → HasRead l l' (λ read. (s ≡ TooLong → MOST_SOURCE < length read) × (MOST_SOURCE < length read → EndsAs TooLong s k k' t t'))

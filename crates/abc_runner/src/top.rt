@@ -4,6 +4,7 @@ ghost use Rattle.abc_io.specs.Devices.{Rose};
 ghost use Rattle.abc_io.specs.Whole.{HasRead};
 ghost use Rattle.abc_runner.specs.Commands.{command_in};
 ghost use Rattle.abc_runner.specs.Statuses.{line_of};
+ghost use Rattle.abc_runner.specs.declared.answer.Answer.{Answer};
 ghost use Rattle.abc_runner.specs.Outcomes.{Ends, EndsAs, IfWriteFault, IsRefusal, IsSolo, IsTextStatus, cut_short};
 ghost use Rattle.abc_runner.specs.Answers.{whole_of, due_of, IsAnswer, IsSoloAnswer, IsTextAnswer};
 
@@ -53,13 +54,17 @@ pub fn run<S: Source, K: Sink>(
     ensures done { result.status ≡ Status.Done
         → IsSolo (command_in words.now) × IsAtEnd (S.left source.new) }
 
-    // The sink. What was due is the line of a refusal, or a text.
+    // The sink. What was due is that of an answer that the words and the source give: the line of
+    // a refusal, or a text.
     ensures line { IsRefusal result.status
         → Appends (K.told sink.old) (K.told sink.new) (line_of result.status) }
     ensures write_fault { IfWriteFault result.status (λ written.
         Rose (K.fault_count sink.old) (K.fault_count sink.new)
-        × (due : List ℕ) × (written < length due)
-        × Appends (K.told sink.old) (K.told sink.new) (take written due)) }
+        × (answer : Answer)
+        × IsAnswer (command_in words.now) answer
+        (S.fault_count source.old) (S.fault_count source.new) (S.left source.old) (S.left source.new)
+        × (written < length (due_of answer))
+        × Appends (K.told sink.old) (K.told sink.new) (take written (due_of answer))) }
     ensures no_memory { result.status ≡ Status.NoMemory
         → IsSolo (command_in words.now) × EndsAs Status.NoMemory result.status
         (K.fault_count sink.old) (K.fault_count sink.new) (K.told sink.old) (K.told sink.new) }
