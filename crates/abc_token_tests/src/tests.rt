@@ -1,7 +1,7 @@
 ghost use Rattle.std.specs.Prelude.{All};
 ghost use Rattle.abc_text.specs.Meanings.{StandsIn};
 
-use abc_parse::{
+use abc_lexer::{
     Cause, Fault, Scanned, TextRefusal, Token, TokenKind, named, names_of, number, scan, spelling,
     text, tokens,
 };
