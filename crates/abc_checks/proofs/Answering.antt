@@ -9,8 +9,8 @@ use Rattle.abc_checks.specs.Sites.{IsFirstSite, ComesBefore}
 use Rattle.abc_checks.specs.Facts.{AtWhole, HasFact, rank, IsChecked, IsFirstFact}
 use Rattle.abc_checks.specs.declared.causes.Site.{Site}
 use Rattle.abc_checks.specs.declared.causes.Site.TheVariants.{Definition, Component, Whole}
-use Rattle.abc_checks.specs.declared.causes.CheckCause.{CheckCause}
-use Rattle.abc_checks.specs.declared.causes.CheckCause.TheVariants.{DoubleName, UnknownName, OpenVariable, Unguarded, ParallelCycle, TooWide, TooManyMoves, NoComponent, TooManyComponents}
+use Rattle.abc_cause.specs.declared.CheckCause.{CheckCause}
+use Rattle.abc_cause.specs.declared.CheckCause.TheVariants.{DoubleName, UnknownName, OpenVariable, Unguarded, ParallelCycle, TooWide, TooManyMoves, NoComponent, TooManyComponents}
 use Rattle.abc_checks.specs.declared.checking.TheConstants.{CAUSES}
 use Rattle.abc_checks.proofs.Solving.{width_rises}
 

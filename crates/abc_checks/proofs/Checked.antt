@@ -18,7 +18,7 @@ use Rattle.abc_checks.specs.Facts.{IsChecked, HasFact, calls_unknown, Unguarded,
 use Rattle.abc_checks.specs.CheckedLaws.{CallsHaveBodies, CheckedCallsEnd, WidthsAreSmall}
 use Rattle.abc_checks.specs.declared.causes.Site.{Site}
 use Rattle.abc_checks.specs.declared.causes.Site.TheVariants as site
-use Rattle.abc_checks.specs.declared.causes.CheckCause.TheVariants as cause
+use Rattle.abc_cause.specs.declared.CheckCause.TheVariants as cause
 use Rattle.abc_checks.proofs.NamesMet.{lists_append}
 use Rattle.abc_checks.proofs.CallPaths.{one_name, same_itself, either, from_left, from_right, pick, false_not_true}
 

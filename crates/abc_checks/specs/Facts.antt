@@ -15,8 +15,8 @@ use Rattle.abc_checks.specs.Variables.{process_open}
 use Rattle.abc_checks.specs.Sites.{AtSite, ComesBefore}
 use Rattle.abc_checks.specs.Measures.{IsTooWide, HasTooManyMoves}
 use Rattle.abc_checks.specs.declared.limits.TheConstants.{MOST_COMPONENTS}
-use Rattle.abc_checks.specs.declared.causes.CheckCause.{CheckCause}
-use Rattle.abc_checks.specs.declared.causes.CheckCause.TheVariants as cause
+use Rattle.abc_cause.specs.declared.CheckCause.{CheckCause}
+use Rattle.abc_cause.specs.declared.CheckCause.TheVariants as cause
 use Rattle.abc_checks.specs.declared.causes.CheckRefusal.{CheckRefusal}
 use Rattle.abc_checks.specs.declared.causes.CheckRefusal.TheVariants as refusal
 use Rattle.abc_checks.specs.declared.causes.CheckRefusal.TheVariants.{Bad}

@@ -4,12 +4,13 @@ ghost use Rattle.abc_checks.specs.Sites.{IsFirstSite};
 ghost use Rattle.abc_checks.specs.Facts.{DoubleName, UnknownName, OpenVariable, Unguarded, ParallelCycle, TooWide, TooManyMoves, NoComponent, TooManyComponents, HasFact, IsChecked, IsFirstFact, IsRefusal};
 
 use crate::calls::{call_graph, unguarded_graph};
-use crate::causes::{CheckCause, CheckRefusal, Site};
+use crate::causes::{CheckRefusal, Site};
 use crate::limits::MOST_COMPONENTS;
 use crate::measures::{Measure, table};
 use crate::places::Places;
 use crate::sites::first_site;
 use crate::{counts, cycles, facts};
+use abc_cause::CheckCause;
 use abc_term::Program;
 use abc_value::NoMemory;
 use std::alloc::Global;

@@ -17,7 +17,8 @@ mod sites;
 mod unknown;
 mod variables;
 
-pub use causes::{CheckCause, CheckRefusal, Site};
+pub use abc_cause::CheckCause;
+pub use causes::{CheckRefusal, Site};
 pub use checking::check;
 pub use laws::{calls_have_bodies, checked_calls_end, widths_are_small};
 pub use limits::{BROADEST, MOST_COMPONENTS, WIDEST};

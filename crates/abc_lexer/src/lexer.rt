@@ -9,7 +9,8 @@ use crate::run::{
     capped_decimal, digits_len, is_digit, is_letter, is_symbol, skip, text_lens, word_len,
 };
 use crate::signs::stands_after;
-use abc_text::{Before, Cause, Fault, Next, Token, TokenKind};
+use abc_cause::Cause;
+use abc_text::{Before, Fault, Next, Token, TokenKind};
 use abc_value::{List, NoMemory};
 use std::alloc::Global;
 

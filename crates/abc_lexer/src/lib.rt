@@ -8,7 +8,8 @@ mod refusal;
 mod run;
 mod signs;
 
-pub use abc_text::{Cause, Fault, Token, TokenKind};
+pub use abc_cause::Cause;
+pub use abc_text::{Fault, Token, TokenKind};
 pub use lexer::{Scanned, scan, tokens};
 pub use meaning::{named, number, spelling, text};
 pub use naming::{Names, names_of};

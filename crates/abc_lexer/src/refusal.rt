@@ -1,4 +1,4 @@
-use abc_text::Cause;
+use abc_cause::Cause;
 use thiserror::Error;
 
 /// Why a text is not read: the place, counted in bytes from 0, and the cause of the first thing wrong

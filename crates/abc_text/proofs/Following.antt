@@ -4,8 +4,8 @@ use Rattle.std.specs.Prelude.{take_while, ◌==◌, nat_le, if◌then◌else◌}
 use Rattle.std.proofs.lemmas.List.Sums.{take_while-cons}
 use Rattle.abc_text.specs.declared.lexical.TokenKind.{TokenKind}
 use Rattle.abc_text.specs.declared.lexical.TokenKind.TheVariants.{Word, Variable, Number, Text, Symbol}
-use Rattle.abc_text.specs.declared.lexical.Cause.{Cause}
-use Rattle.abc_text.specs.declared.lexical.Cause.TheVariants.{BadByte, BadText, LongText, LongName, WideNumber}
+use Rattle.abc_cause.specs.declared.Cause.{Cause}
+use Rattle.abc_cause.specs.declared.Cause.TheVariants.{BadByte, BadText, LongText, LongName, WideNumber}
 use Rattle.abc_text.specs.declared.lexical.Before.{Before}
 use Rattle.abc_text.specs.declared.lexical.Next.{Next}
 use Rattle.abc_text.specs.declared.lexical.Next.TheVariants.{End, Good, Bad}

@@ -1,7 +1,7 @@
 -- Each text is read in one way.
 use Rattle.std.proofs.Common.{◌≡◌, ℕ, zero, suc, ◌+◌, ◌-◌, ◌≤◌, ◌<◌, List, [], ◌∷◌, length, drop, Option, Some, None, refl, sym, ap, ◌∙◌, subst, arith, length-drop}
 use Rattle.abc_text.specs.declared.lexical.TokenKind.{TokenKind}
-use Rattle.abc_text.specs.declared.lexical.Cause.{Cause}
+use Rattle.abc_cause.specs.declared.Cause.{Cause}
 use Rattle.abc_text.specs.declared.lexical.Before.{Before}
 use Rattle.abc_text.specs.declared.lexical.Before.TheVariants.{Open}
 use Rattle.abc_text.specs.declared.lexical.Next.{Next}

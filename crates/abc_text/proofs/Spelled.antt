@@ -4,7 +4,7 @@ use Rattle.std.specs.Prelude.{◌==◌, ◌||◌, if◌then◌else◌}
 use Rattle.std.proofs.lemmas.List.{take_at, drop_at}
 use Rattle.std.specs.List.{AllPass}
 use Rattle.abc_text.specs.declared.lexical.TokenKind.{TokenKind}
-use Rattle.abc_text.specs.declared.lexical.Cause.TheVariants.{BadByte}
+use Rattle.abc_cause.specs.declared.Cause.TheVariants.{BadByte}
 use Rattle.abc_text.specs.declared.lexical.Before.{Before}
 use Rattle.abc_text.specs.declared.lexical.Before.TheVariants.{Open}
 use Rattle.abc_text.specs.declared.lexical.Next.TheVariants.{End, Good, Bad}

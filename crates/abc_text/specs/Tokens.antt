@@ -5,8 +5,8 @@ use Rattle.std.specs.List.{list_any}
 use Rattle.std.specs.Str.{bytes_eq}
 use Rattle.abc_text.specs.declared.lexical.TokenKind.{TokenKind}
 use Rattle.abc_text.specs.declared.lexical.TokenKind.TheVariants.{Word, Variable, Number, Text, Symbol}
-use Rattle.abc_text.specs.declared.lexical.Cause.{Cause}
-use Rattle.abc_text.specs.declared.lexical.Cause.TheVariants.{BadByte, BadText, LongText, LongName, WideNumber}
+use Rattle.abc_cause.specs.declared.Cause.{Cause}
+use Rattle.abc_cause.specs.declared.Cause.TheVariants.{BadByte, BadText, LongText, LongName, WideNumber}
 use Rattle.abc_text.specs.declared.lexical.Before.{Before}
 use Rattle.abc_text.specs.declared.lexical.Before.TheVariants.{Open, Operand, Sign}
 use Rattle.abc_text.specs.declared.lexical.Next.{Next}

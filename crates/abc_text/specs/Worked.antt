@@ -2,8 +2,8 @@
 use Rattle.std.specs.Prelude.{ℕ, List, [], ◌∷◌, Option, Some, None, codes}
 use Rattle.abc_text.specs.declared.lexical.TokenKind.{TokenKind}
 use Rattle.abc_text.specs.declared.lexical.TokenKind.TheVariants.{Word, Variable, Number, Text, Symbol}
-use Rattle.abc_text.specs.declared.lexical.Cause.{Cause}
-use Rattle.abc_text.specs.declared.lexical.Cause.TheVariants.{BadByte, BadText, WideNumber}
+use Rattle.abc_cause.specs.declared.Cause.{Cause}
+use Rattle.abc_cause.specs.declared.Cause.TheVariants.{BadByte, BadText, WideNumber}
 use Rattle.abc_text.specs.declared.lexical.Token.{Token}
 use Rattle.abc_text.specs.declared.lexical.Fault.{Fault}
 use Rattle.abc_text.specs.Tokens.{Reads, AreTokens}

@@ -1,3 +1,5 @@
+use abc_cause::Cause;
+
 /// The kinds of tokens.
 #[derive(Clone, Copy, Debug, PartialEq, Eq)]
 pub enum TokenKind {
@@ -19,31 +21,6 @@ pub struct Token {
     pub kind: TokenKind,
     pub place: u32,
     pub len: u32,
-}
-
-/// Why a text is refused.
-#[derive(Clone, Copy, Debug, PartialEq, Eq)]
-pub enum Cause {
-    /// A byte begins no token.
-    BadByte,
-    /// A text isn't closed, or holds another byte or another escape.
-    BadText,
-    /// A text has more than 64 bytes.
-    LongText,
-    /// A word has more than 32 bytes.
-    LongName,
-    /// A number is above 2^63, or it is 2^63 and no sign stands before it.
-    WideNumber,
-    /// The tokens up to here begin no text of the grammar.
-    Syntax,
-    /// More than 100 brackets are open.
-    TooDeep,
-    /// A definition or a component has more than 2,048 tokens.
-    TooLarge,
-    /// A tuple has more than 8 parts.
-    LongTuple,
-    /// A set literal has more than 256 scalars.
-    LongSet,
 }
 
 /// The first bad token of a text: where its first byte stands, counted from 0, and what is wrong.

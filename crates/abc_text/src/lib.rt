@@ -7,8 +7,9 @@
 mod laws;
 mod lexical;
 
+pub use abc_cause::Cause;
 pub use laws::{
     named_have_numbers, names_stay, one_reading, spelled_is_read, spellings, tokens_stand,
     worked_tokens,
 };
-pub use lexical::{Before, Cause, Fault, Next, Token, TokenKind};
+pub use lexical::{Before, Fault, Next, Token, TokenKind};

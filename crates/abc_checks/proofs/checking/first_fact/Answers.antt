@@ -3,8 +3,8 @@ use Rattle.abc_term.specs.declared.terms.Program.{Program}
 use Rattle.abc_checks.specs.Sites.{IsFirstSite}
 use Rattle.abc_checks.specs.Facts.{HasFact}
 use Rattle.abc_checks.specs.declared.causes.Site.{Site}
-use Rattle.abc_checks.specs.declared.causes.CheckCause.{CheckCause}
-use Rattle.abc_checks.specs.declared.causes.CheckCause.TheVariants.{DoubleName}
+use Rattle.abc_cause.specs.declared.CheckCause.{CheckCause}
+use Rattle.abc_cause.specs.declared.CheckCause.TheVariants.{DoubleName}
 use Rattle.abc_checks.specs.declared.checking.TheConstants.{CAUSES}
 use Rattle.abc_checks.proofs.Answering.{one_further, same_default}
 use Rattle.abc_checks.proofs.checking.first_fact.Goals as goal

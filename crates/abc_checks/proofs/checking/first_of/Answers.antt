@@ -1,7 +1,7 @@
 use Rattle.std.proofs.Common.{sym, subst, IfOk}
 use Rattle.abc_checks.specs.Sites.{IsFirstSite}
 use Rattle.abc_checks.specs.Facts.{HasFact}
-use Rattle.abc_checks.specs.declared.causes.CheckCause.{CheckCause}
+use Rattle.abc_cause.specs.declared.CheckCause.{CheckCause}
 use Rattle.abc_checks.proofs.checking.first_of.Goals as goal
 
 pub returns-in-DoubleName : goal.returns-in-DoubleName
