@@ -1,5 +1,5 @@
 -- What the answers of the code's tests say of the facts.
-use Rattle.std.proofs.Common.{◌≡◌, ◌≤◌, ◌<◌, ◌||◌, ◌↔◌, ◌⊎◌, ℕ, ◌+◌, zero, suc, Bool, true, false, IsTrue, List, [], ◌∷◌, length, inl, inr, get_or, refl, sym, ◌∙◌, ap, subst, arith, nat_lt, Option, Some, None, if◌then◌else◌}
+use Rattle.std.proofs.Common.{◌≡◌, ◌≤◌, ◌<◌, ◌↔◌, ◌⊎◌, ℕ, ◌+◌, zero, suc, Bool, true, false, IsTrue, List, [], ◌∷◌, length, inl, inr, get_or, refl, sym, ◌∙◌, ap, subst, arith, nat_lt, Some, None, if◌then◌else◌}
 use Rattle.std.proofs.lemmas.Bool.Decides.{nat_tests}
 use Rattle.abc_pred.specs.declared.names.Name.{Name}
 use Rattle.abc_term.specs.Processes.{Process, Definitions}

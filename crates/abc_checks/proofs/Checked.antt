@@ -1,22 +1,20 @@
 -- The laws of checked programs.
-use Rattle.std.proofs.Common.{◌≡◌, ◌≤◌, ◌<◌, ◌⊎◌, ◌||◌, ◌++◌, ℕ, zero, suc, Bool, true, false, not, IsTrue, List, [], ◌∷◌, length, refl, sym, ◌∙◌, ap, subst, inl, inr, arith, slice_get, Option, Some, None, if◌then◌else◌}
+use Rattle.std.proofs.Common.{◌≡◌, ◌≤◌, ◌<◌, ◌⊎◌, ◌++◌, ℕ, zero, suc, Bool, true, false, not, IsTrue, List, [], ◌∷◌, length, refl, sym, ◌∙◌, ap, subst, inl, inr, arith, slice_get, Option, Some, if◌then◌else◌}
 use Rattle.std.specs.Prelude.{IsSomeAnd}
 use Rattle.std.specs.List.{list_any}
 use Rattle.abc_pred.specs.declared.names.Name.{Name}
 use Rattle.abc_pred.specs.Maps.{lists, same_name}
 use Rattle.abc_term.specs.declared.terms.Definition.{Definition}
 use Rattle.abc_term.specs.declared.terms.Component.{Component}
-use Rattle.abc_term.specs.declared.terms.Program.{Program}
 use Rattle.abc_term.specs.Processes.{Process, Nil, Output, Input, When, Choice, Par, Call, Definitions, body_of}
 use Rattle.abc_term.specs.Standing.{process_of, definitions_of}
 use Rattle.abc_term.specs.Guarded.{AreGuarded, defines, SomeUnguarded, CallsAtOnce}
 use Rattle.abc_term.specs.Guarded as held
-use Rattle.abc_checks.specs.Parts.{calls, unguarded_calls, place_of}
+use Rattle.abc_checks.specs.Parts.{calls, unguarded_calls}
 use Rattle.abc_checks.specs.Reaching.{Reaches, at_once, by_way_of}
-use Rattle.abc_checks.specs.Measures.{width_of, IsLeastSolution, IsTooWide}
-use Rattle.abc_checks.specs.Facts.{IsChecked, HasFact, calls_unknown, Unguarded, UnknownName, TooWide}
+use Rattle.abc_checks.specs.Measures.{width_of, IsTooWide}
+use Rattle.abc_checks.specs.Facts.{calls_unknown}
 use Rattle.abc_checks.specs.CheckedLaws.{CallsHaveBodies, CheckedCallsEnd, WidthsAreSmall}
-use Rattle.abc_checks.specs.declared.causes.Site.{Site}
 use Rattle.abc_checks.specs.declared.causes.Site.TheVariants as site
 use Rattle.abc_cause.specs.declared.CheckCause.TheVariants as cause
 use Rattle.abc_checks.proofs.NamesMet.{lists_append}

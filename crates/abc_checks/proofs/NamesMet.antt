@@ -1,5 +1,5 @@
 -- Lists of names, and the places of definitions.
-use Rattle.std.proofs.Common.{◌≡◌, ◌++◌, ◌||◌, ◌<◌, ℕ, suc, Bool, true, false, List, [], ◌∷◌, length, refl, ap, arith, nat_lt, if◌then◌else◌, ◌∙◌, map, append_assoc}
+use Rattle.std.proofs.Common.{◌≡◌, ◌++◌, ◌||◌, ℕ, suc, Bool, true, false, List, [], ◌∷◌, length, refl, arith, nat_lt, if◌then◌else◌, ◌∙◌, map, append_assoc}
 use Rattle.std.proofs.lemmas.List.{map-append}
 use Prim.Native.Nat.compare
 use Rattle.std.proofs.lemmas.Bool.Decides.{nat_tests}
@@ -7,7 +7,7 @@ use Rattle.std.specs.List.{list_any}
 use Rattle.abc_pred.specs.declared.names.Name.{Name}
 use Rattle.abc_pred.specs.Maps.{lists, same_name}
 use Rattle.abc_term.specs.declared.terms.Definition.{Definition}
-use Rattle.abc_term.specs.Standing.{definitions_of, process_of}
+use Rattle.abc_term.specs.Standing.{definitions_of}
 use Rattle.abc_term.specs.Guarded.{defines}
 use Rattle.abc_checks.specs.Parts.{place_of}
 

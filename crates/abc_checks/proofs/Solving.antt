@@ -1,14 +1,14 @@
 -- Widths and breadths: raised tables come to the least solution.
-use Rattle.std.proofs.Common.{◌≡◌, ◌≢◌, ◌⊎◌, ◌≤◌, ◌<◌, ◌+◌, ◌-◌, ℕ, zero, suc, Bool, true, false, List, [], ◌∷◌, length, map, get_or, set, min, max, refl, sym, ◌∙◌, ap, subst, inl, inr, arith, if◌then◌else◌, get_or-set_other, get_or-set_same, sum_by, replicate, slice_get, Option, Some, None}
+use Rattle.std.proofs.Common.{◌≡◌, ◌≢◌, ◌⊎◌, ◌≤◌, ◌<◌, ◌+◌, ◌-◌, ℕ, zero, suc, Bool, true, false, List, [], ◌∷◌, length, get_or, set, min, max, refl, sym, ◌∙◌, ap, subst, inl, inr, arith, if◌then◌else◌, get_or-set_other, get_or-set_same, replicate, slice_get, Some, None}
 use Rattle.std.proofs.lemmas.List.{length-set, length-map, length-replicate}
 use Rattle.std.proofs.lemmas.List.Sums.{sum_by-set}
 use Rattle.abc_pred.specs.declared.names.Name.{Name}
 use Rattle.abc_pred.specs.Maps.{same_name}
 use Rattle.abc_term.specs.declared.terms.Definition.{Definition}
-use Rattle.abc_term.specs.Processes.{Process, Nil, Output, Input, When, Choice, Par, Call, Definitions, body_of}
+use Rattle.abc_term.specs.Processes.{Process, Nil, Output, Input, When, Choice, Par, Call, body_of}
 use Rattle.abc_term.specs.Standing.{process_of, definitions_of}
 use Rattle.abc_checks.specs.Parts.{place_of}
-use Rattle.abc_checks.specs.Measures.{width_of, breadth_of, IsSolution, IsLeastSolution}
+use Rattle.abc_checks.specs.Measures.{width_of, breadth_of, IsLeastSolution}
 use Rattle.abc_checks.specs.Tables.{measure_of, cap_of, number_of, bodies, room, IsEnough, IsRising, IsSettledAt}
 use Rattle.abc_checks.specs.declared.measures.Measure.{Measure}
 use Rattle.abc_checks.specs.declared.measures.Measure.TheVariants.{Width, Breadth}

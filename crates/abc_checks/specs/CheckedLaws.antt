@@ -1,5 +1,5 @@
 -- What a checked program gives to those that run it.
-use Rattle.std.specs.Prelude.{◌≡◌, ◌≤◌, ℕ, IsTrue, Option, Some, slice_get}
+use Rattle.std.specs.Prelude.{◌≡◌, ◌≤◌, ℕ, IsTrue, Some, slice_get}
 use Rattle.abc_pred.specs.declared.names.Name.{Name}
 use Rattle.abc_pred.specs.Maps.{lists}
 use Rattle.abc_term.specs.declared.terms.Definition.{Definition}

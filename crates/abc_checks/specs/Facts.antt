@@ -1,7 +1,6 @@
 -- The facts that a checked program is free of.
-use Rattle.std.specs.Prelude.{◌≡◌, ◌⊎◌, ◌<◌, ℕ, ◌||◌, Bool, false, not, IsTrue, List, [], ◌∷◌, length, map, take, slice_get, IsSomeAnd}
+use Rattle.std.specs.Prelude.{◌≡◌, ◌<◌, ℕ, ◌||◌, Bool, not, IsTrue, List, [], length, map, take, slice_get, IsSomeAnd}
 use Rattle.std.specs.List.{list_any}
-use Rattle.abc_pred.specs.declared.names.Name.{Name}
 use Rattle.abc_pred.specs.Maps.{lists}
 use Rattle.abc_term.specs.declared.terms.Definition.{Definition}
 use Rattle.abc_term.specs.declared.terms.Component.{Component}

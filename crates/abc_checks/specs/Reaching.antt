@@ -1,5 +1,5 @@
 -- Which definitions reach which by calls: a path from body to body.
-use Rattle.std.specs.Prelude.{ℕ, ◌||◌, Bool, true, false, IsTrue, List, slice_get, IsSomeAnd}
+use Rattle.std.specs.Prelude.{◌||◌, Bool, true, false, IsTrue, List}
 use Rattle.abc_pred.specs.declared.names.Name.{Name}
 use Rattle.abc_pred.specs.Maps.{lists}
 use Rattle.abc_term.specs.Processes.{Process, Nil, Output, Input, When, Choice, Par, Call, Definitions, body_of}

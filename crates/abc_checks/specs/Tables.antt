@@ -1,5 +1,5 @@
 -- A table of numbers, one for each definition, on its way up to the least solution. The facts are not stated by these, but the code is.
-use Rattle.std.specs.Prelude.{◌≡◌, ◌≤◌, ◌<◌, ℕ, ◌+◌, ◌-◌, Bool, false, true, List, length, map, sum_by, slice_index_or}
+use Rattle.std.specs.Prelude.{◌≡◌, ◌≤◌, ℕ, ◌+◌, ◌-◌, List, length, map, sum_by, slice_index_or}
 use Rattle.abc_pred.specs.declared.names.Name.{Name}
 use Rattle.abc_term.specs.declared.terms.Definition.{Definition}
 use Rattle.abc_term.specs.Processes.{Process, Nil, body_of}

@@ -1,6 +1,6 @@
 -- Variables that no enclosing input binds. An input binds its variables in its own predicate, in its updates and in what
 -- follows; `bound` has the variables of the inputs around a part.
-use Rattle.std.specs.Prelude.{◌++◌, ◌||◌, Bool, false, not, List, [], ◌∷◌}
+use Rattle.std.specs.Prelude.{◌++◌, ◌||◌, Bool, false, not, List}
 use Rattle.std.specs.List.{list_any}
 use Rattle.abc_pred.specs.declared.names.Name.{Name}
 use Rattle.abc_pred.specs.Maps.{lists}

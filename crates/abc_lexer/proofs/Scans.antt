@@ -1,9 +1,9 @@
 -- A step of the reader of tokens.
-use Rattle.std.proofs.Common.{◌≡◌, ℕ, ◌+◌, List, [], ◌∷◌, ◌++◌, length, drop, take, Option, Some, None, refl, sym, ap, ◌∙◌, subst, append_assoc, append-nil, arith}
+use Rattle.std.proofs.Common.{◌≡◌, ℕ, ◌+◌, List, [], ◌∷◌, ◌++◌, length, drop, take, Option, Some, None, sym, subst, append_assoc, append-nil}
 use Rattle.abc_text.specs.declared.lexical.Before.{Before}
 use Rattle.abc_text.specs.declared.lexical.Token.{Token}
 use Rattle.abc_text.specs.declared.lexical.Fault.{Fault}
-use Rattle.abc_text.specs.declared.lexical.Next.TheVariants.{End, Good, Bad}
+use Rattle.abc_text.specs.declared.lexical.Next.TheVariants.{End, Bad}
 use Rattle.abc_text.specs.Tokens.{skip, next, stands_after, IsNext, IsRead, Reads}
 
 -- what is left reads on from the tokens that were found

@@ -1,6 +1,5 @@
 -- What the readers of tokens answer.
 use Rattle.std.specs.Prelude.{◌≡◌, ℕ, false, List, Option, Some, None, length}
-use Rattle.abc_text.specs.declared.lexical.Fault.{Fault}
 use Rattle.abc_text.specs.Tokens.{IsFirstBad, text_len, text_value}
 use Rattle.abc_lexer.specs.declared.refusal.TextRefusal.{TextRefusal}
 use Rattle.abc_lexer.specs.declared.refusal.TextRefusal.TheVariants.{Refused, NoMemory}

@@ -1,11 +1,11 @@
 -- What may follow a token doesn't change it.
-use Rattle.std.proofs.Common.{◌≡◌, ℕ, suc, ◌+◌, ◌≤◌, ◌<◌, Bool, true, false, cond, List, [], ◌∷◌, ◌++◌, length, Option, Some, None, refl, sym, ap, ◌∙◌, subst, arith}
+use Rattle.std.proofs.Common.{◌≡◌, ℕ, suc, ◌+◌, Bool, true, false, cond, List, [], ◌∷◌, ◌++◌, length, Option, Some, None, refl, sym, ap, ◌∙◌, subst, arith}
 use Rattle.std.specs.Prelude.{take_while, ◌==◌, nat_le, if◌then◌else◌}
 use Rattle.std.proofs.lemmas.List.Sums.{take_while-cons}
 use Rattle.abc_text.specs.declared.lexical.TokenKind.{TokenKind}
-use Rattle.abc_text.specs.declared.lexical.TokenKind.TheVariants.{Word, Variable, Number, Text, Symbol}
+use Rattle.abc_text.specs.declared.lexical.TokenKind.TheVariants.{Word, Variable, Number, Symbol}
 use Rattle.abc_cause.specs.declared.Cause.{Cause}
-use Rattle.abc_cause.specs.declared.Cause.TheVariants.{BadByte, BadText, LongText, LongName, WideNumber}
+use Rattle.abc_cause.specs.declared.Cause.TheVariants.{BadByte, BadText, LongName, WideNumber}
 use Rattle.abc_text.specs.declared.lexical.Before.{Before}
 use Rattle.abc_text.specs.declared.lexical.Next.{Next}
 use Rattle.abc_text.specs.declared.lexical.Next.TheVariants.{End, Good, Bad}

@@ -1,18 +1,17 @@
 -- Words, variables, numbers and texts are read as they are spelled.
-use Rattle.std.proofs.Common.{◌≡◌, ℕ, zero, suc, ◌+◌, ◌≤◌, ◌<◌, Bool, true, false, cond, List, [], ◌∷◌, ◌++◌, length, Option, Some, None, refl, sym, ap, ◌∙◌, subst, arith, length-append}
-use Rattle.std.specs.Prelude.{take_while, ◌==◌, ◌||◌, ◌&&◌, nat_le, if◌then◌else◌, flat_map}
+use Rattle.std.proofs.Common.{◌≡◌, ℕ, suc, ◌+◌, ◌≤◌, ◌<◌, Bool, true, false, cond, List, [], ◌∷◌, ◌++◌, length, Option, Some, None, refl, sym, ap, ◌∙◌, arith, length-append}
+use Rattle.std.specs.Prelude.{take_while, ◌==◌, ◌||◌, nat_le, if◌then◌else◌, flat_map}
 use Rattle.std.specs.List.{AllPass}
-use Rattle.std.proofs.lemmas.Bool.{leb-true, le-leb}
+use Rattle.std.proofs.lemmas.Bool.{le-leb}
 use Rattle.std.proofs.lemmas.Bool.Decides.{nat_tests}
 use Rattle.std.proofs.lemmas.List.Sums.{take_while-cons}
 use Rattle.abc_value.specs.Literals.{escaped}
 use Rattle.abc_text.specs.declared.lexical.TokenKind.TheVariants.{Word, Variable, Number, Text, Symbol}
-use Rattle.abc_cause.specs.declared.Cause.TheVariants.{BadByte, BadText, LongText, LongName, WideNumber}
+use Rattle.abc_cause.specs.declared.Cause.TheVariants.{BadByte, LongText, LongName, WideNumber}
 use Rattle.abc_text.specs.declared.lexical.Before.{Before}
-use Rattle.abc_text.specs.declared.lexical.Next.{Next}
-use Rattle.abc_text.specs.declared.lexical.Next.TheVariants.{End, Good, Bad}
-use Rattle.abc_text.specs.Tokens.{is_letter, is_digit, is_word_byte, is_symbol, is_quote_mark, is_printable, word_len, word_token, variable_token, decimal, greatest, number_token, one_more, text_len, text_value, closed_text, text_token, colon_token, token_at, next}
-use Rattle.abc_text.specs.Spelling.{IsWordSpelling, text_spelling, SpellingsAreRead, Spellings}
+use Rattle.abc_text.specs.declared.lexical.Next.TheVariants.{Good, Bad}
+use Rattle.abc_text.specs.Tokens.{is_letter, is_digit, is_word_byte, is_symbol, is_quote_mark, is_printable, word_len, word_token, variable_token, decimal, greatest, number_token, one_more, text_len, text_value, closed_text, text_token, colon_token, next}
+use Rattle.abc_text.specs.Spelling.{IsWordSpelling, text_spelling, Spellings}
 use Rattle.abc_text.proofs.Forward.{letter_is_word}
 
 tail_passes : (p : ℕ → Bool) (b : ℕ) (bs : List ℕ) → AllPass p (b ∷ bs) → AllPass p bs

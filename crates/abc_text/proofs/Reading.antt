@@ -1,5 +1,5 @@
 -- Each text is read in one way.
-use Rattle.std.proofs.Common.{◌≡◌, ℕ, zero, suc, ◌+◌, ◌-◌, ◌≤◌, ◌<◌, List, [], ◌∷◌, length, drop, Option, Some, None, refl, sym, ap, ◌∙◌, subst, arith, length-drop}
+use Rattle.std.proofs.Common.{◌≡◌, ℕ, zero, suc, ◌+◌, ◌-◌, ◌≤◌, List, [], ◌∷◌, length, drop, Option, Some, None, refl, sym, ap, ◌∙◌, subst, arith, length-drop}
 use Rattle.abc_text.specs.declared.lexical.TokenKind.{TokenKind}
 use Rattle.abc_cause.specs.declared.Cause.{Cause}
 use Rattle.abc_text.specs.declared.lexical.Before.{Before}
@@ -8,8 +8,8 @@ use Rattle.abc_text.specs.declared.lexical.Next.{Next}
 use Rattle.abc_text.specs.declared.lexical.Next.TheVariants.{End, Good, Bad}
 use Rattle.abc_text.specs.declared.lexical.Token.{Token}
 use Rattle.abc_text.specs.declared.lexical.Fault.{Fault}
-use Rattle.abc_text.specs.Tokens.{skip, next, stands_after, IsNext, spelled, left, IsRead, Reads}
-use Rattle.abc_text.specs.Laws.{HasOneReading, OneReading}
+use Rattle.abc_text.specs.Tokens.{skip, next, stands_after, IsNext, spelled, left, IsRead}
+use Rattle.abc_text.specs.Laws.{OneReading}
 use Rattle.abc_text.proofs.Forward.{length-skip-le, good_within}
 
 good_kind : (k l : TokenKind) (m n : ℕ) → Good k m ≡ Good l n → k ≡ l

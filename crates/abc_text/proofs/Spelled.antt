@@ -1,5 +1,5 @@
 -- The tokens of spelled tokens are these tokens.
-use Rattle.std.proofs.Common.{◌≡◌, ℕ, suc, ◌+◌, Bool, true, false, cond, List, [], ◌∷◌, ◌++◌, length, drop, take, Option, Some, None, refl, sym, ap, ◌∙◌, subst, arith, length-append, eqb-true}
+use Rattle.std.proofs.Common.{◌≡◌, ℕ, suc, ◌+◌, Bool, true, false, List, [], ◌∷◌, ◌++◌, length, drop, take, None, refl, sym, ap, ◌∙◌, subst, arith, length-append, eqb-true}
 use Rattle.std.specs.Prelude.{◌==◌, ◌||◌, if◌then◌else◌}
 use Rattle.std.proofs.lemmas.List.{take_at, drop_at}
 use Rattle.std.specs.List.{AllPass}
@@ -7,9 +7,8 @@ use Rattle.abc_text.specs.declared.lexical.TokenKind.{TokenKind}
 use Rattle.abc_cause.specs.declared.Cause.TheVariants.{BadByte}
 use Rattle.abc_text.specs.declared.lexical.Before.{Before}
 use Rattle.abc_text.specs.declared.lexical.Before.TheVariants.{Open}
-use Rattle.abc_text.specs.declared.lexical.Next.TheVariants.{End, Good, Bad}
-use Rattle.abc_text.specs.declared.lexical.Token.{Token}
-use Rattle.abc_text.specs.Tokens.{is_blank, skip_from, skip, token_at, next, stands_after, IsNext, IsRead}
+use Rattle.abc_text.specs.declared.lexical.Next.TheVariants.{Good, Bad}
+use Rattle.abc_text.specs.Tokens.{is_blank, skip_from, skip, token_at, next, stands_after, IsRead}
 use Rattle.abc_text.specs.Laws.{Piece, text_of, tokens_of, AreSpelled, SpelledIsRead}
 use Rattle.abc_text.proofs.Following.{followed}
 

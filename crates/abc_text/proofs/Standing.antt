@@ -1,16 +1,15 @@
 -- Each token of a text stands in it.
-use Rattle.std.proofs.Common.{◌≡◌, ℕ, zero, suc, ◌+◌, ◌-◌, ◌≤◌, ◌<◌, Bool, true, false, List, [], ◌∷◌, length, take, drop, Option, Some, None, All, get_or, refl, sym, ap, ◌∙◌, subst, arith, length-drop}
+use Rattle.std.proofs.Common.{◌≡◌, ℕ, zero, suc, ◌+◌, ◌≤◌, Bool, true, false, List, [], ◌∷◌, length, take, drop, Option, All, refl, sym, ap, ◌∙◌, arith, length-drop}
 use Rattle.std.specs.Prelude.{not, ◌==◌, if◌then◌else◌}
 use Rattle.std.proofs.lemmas.List.{drop-drop}
 use Rattle.abc_text.specs.declared.lexical.Before.{Before}
 use Rattle.abc_text.specs.declared.lexical.Before.TheVariants.{Open}
-use Rattle.abc_text.specs.declared.lexical.Next.TheVariants.{Good}
 use Rattle.abc_text.specs.declared.lexical.Token.{Token}
 use Rattle.abc_text.specs.declared.lexical.Fault.{Fault}
-use Rattle.abc_text.specs.Tokens.{is_blank, skip_from, skip, next, stands_after, IsNext, spelled, left, IsRead, Reads}
-use Rattle.abc_text.specs.Meanings.{spelling, StandsIn}
+use Rattle.abc_text.specs.Tokens.{is_blank, skip_from, skip, next, stands_after, IsNext, spelled, left, IsRead}
+use Rattle.abc_text.specs.Meanings.{StandsIn}
 use Rattle.abc_text.specs.Laws.{TokensStand}
-use Rattle.abc_text.proofs.Forward.{length-skip-le, good_within}
+use Rattle.abc_text.proofs.Forward.{good_within}
 use Rattle.abc_text.proofs.Alone.{token_alone}
 
 -- what is left is a back part

@@ -1,5 +1,5 @@
 -- Worked examples of tokens.
-use Rattle.std.specs.Prelude.{ℕ, List, [], ◌∷◌, Option, Some, None, codes}
+use Rattle.std.specs.Prelude.{ℕ, [], ◌∷◌, Option, Some, codes}
 use Rattle.abc_text.specs.declared.lexical.TokenKind.{TokenKind}
 use Rattle.abc_text.specs.declared.lexical.TokenKind.TheVariants.{Word, Variable, Number, Text, Symbol}
 use Rattle.abc_cause.specs.declared.Cause.{Cause}

@@ -1,4 +1,4 @@
-use Rattle.std.proofs.Common.{◌≡◌, ◌<◌, ℕ, subst, get_or, length, arith, Option, None}
+use Rattle.std.proofs.Common.{◌<◌, subst, get_or, Option, None}
 use Rattle.abc_term.specs.declared.terms.Program.{Program}
 use Rattle.abc_checks.specs.Sites.{IsFirstSite}
 use Rattle.abc_checks.specs.Facts.{HasFact}

@@ -1,4 +1,4 @@
-use Rattle.std.proofs.Common.{◌≡◌, sym, ◌∙◌, ap}
+use Rattle.std.proofs.Common.{sym, ◌∙◌, ap}
 use Rattle.abc_term.specs.Processes.{Process}
 use Rattle.abc_checks.specs.Tables.{measure_of, number_of}
 use Rattle.abc_checks.proofs.Solving.{body_found, body_missing, nil_asks_one}

@@ -1,5 +1,5 @@
 use Rattle.std.proofs.Common.{◌≡◌, ◌<◌, ℕ, List, length, set, get_or, sym, ◌∙◌, ap, subst, arith}
-use Rattle.abc_term.specs.Processes.{Process, Nil}
+use Rattle.abc_term.specs.Processes.{Nil}
 use Rattle.abc_checks.specs.Tables.{measure_of, cap_of, number_of, bodies, room, IsRising}
 use Rattle.abc_checks.proofs.Solving.{rising_on, room_falls, default_number}
 use Rattle.abc_checks.proofs.measures.raise.Goals as goal

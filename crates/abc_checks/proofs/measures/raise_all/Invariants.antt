@@ -1,4 +1,4 @@
-use Rattle.std.proofs.Common.{◌≡◌, ◌<◌, ◌≤◌, ℕ, true, false}
+use Rattle.std.proofs.Common.{◌≡◌, ◌<◌, ℕ, true, false}
 use Rattle.abc_checks.specs.Tables.{measure_of, cap_of, room, IsRising, IsSettledAt}
 use Rattle.abc_checks.proofs.measures.raise_all.Given as goal
 

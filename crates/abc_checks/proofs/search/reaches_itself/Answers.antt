@@ -1,6 +1,6 @@
-use Rattle.std.proofs.Common.{◌≡◌, ◌<◌, ◌+◌, ◌++◌, ◌∷◌, Bool, true, false, ℕ, List, [], get_or, sym, ◌∙◌, subst, ap, take, ◌-◌, length, refl, zero, suc}
-use Rattle.abc_checks.specs.Graphs.{Search, mark_all, search_of, Path}
-use Rattle.abc_checks.proofs.Searching.{Searching, Marked, unmarked, begins, goes_on, falls_on, ends}
+use Rattle.std.proofs.Common.{◌≡◌, ◌<◌, ◌+◌, ◌++◌, ℕ, List, [], sym, ◌∙◌, subst, ap, take, ◌-◌, length, refl}
+use Rattle.abc_checks.specs.Graphs.{Search, mark_all, search_of}
+use Rattle.abc_checks.proofs.Searching.{Searching, unmarked, begins, goes_on, falls_on, ends}
 use Rattle.abc_checks.proofs.search.reaches_itself.Goals as goal
 
 pub loop-next-init : goal.loop-next-init

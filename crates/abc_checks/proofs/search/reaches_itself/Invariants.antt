@@ -1,4 +1,4 @@
-use Rattle.std.proofs.Common.{ℕ, ◌+◌, length}
+use Rattle.std.proofs.Common.{◌+◌, length}
 use Rattle.abc_checks.specs.Graphs.{search_of}
 use Rattle.abc_checks.proofs.Searching.{Searching, unmarked}
 use Rattle.abc_checks.proofs.search.reaches_itself.Given as goal

@@ -1,4 +1,4 @@
-use Rattle.std.proofs.Common.{◌≡◌, ◌≤◌, ◌^◌, ◌-◌, List, ℕ, min, ap, ◌∙◌, arith}
+use Rattle.std.proofs.Common.{◌^◌, ◌-◌, List, ℕ, min, ap, ◌∙◌, arith}
 use Rattle.abc_text.specs.Tokens.{decimal}
 use Rattle.abc_text.proofs.OfKind.{number_of-small}
 use Rattle.abc_lexer.proofs.meaning.number.Goals as goal

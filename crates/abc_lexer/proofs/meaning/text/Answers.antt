@@ -1,7 +1,6 @@
-use Rattle.std.proofs.Common.{◌≡◌, ◌≤◌, ◌∷◌, List, ℕ, ap, sym, ◌∙◌, subst, false, length, drop, All, arith, leb-true}
+use Rattle.std.proofs.Common.{◌≤◌, List, ℕ, ap, sym, ◌∙◌, subst, false, length, drop, All}
 use Rattle.abc_value.specs.Text.{IsPrintable}
 use Rattle.abc_text.specs.Tokens.{text_value}
-use Rattle.abc_text.specs.Meanings.{text_at}
 use Rattle.abc_text.proofs.OfKind.{text-stands}
 use Rattle.abc_lexer.proofs.TextBytes.{all_printable}
 use Rattle.abc_lexer.proofs.meaning.text.Goals as goal

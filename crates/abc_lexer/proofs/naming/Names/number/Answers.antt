@@ -1,4 +1,4 @@
-use Rattle.std.proofs.Common.{◌≡◌, List, ℕ, ap, ◌∙◌}
+use Rattle.std.proofs.Common.{List, ℕ, ap, ◌∙◌}
 use Rattle.abc_text.specs.Meanings.{with_word, number_in}
 use Rattle.abc_lexer.proofs.Numbering.{words_of, words-insert, number-insert}
 use Rattle.abc_lexer.proofs.naming.Names.number.Goals as goal
