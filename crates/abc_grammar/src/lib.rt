@@ -1,0 +1,10 @@
+//! The grammar of programs, as definitions: which lists of tokens are which program, within which
+//! limits, and which refusal every other text has.
+//!
+//! The definitions are in `specs/`, and docs/TEXT.md goes through them. The types here are what the
+//! tokens stand for: the parser reads the same type that the grammar speaks of.
+#![tactic(auto)]
+
+mod lexemes;
+
+pub use lexemes::{Keyword, Lexeme, Mark};
