@@ -1,5 +1,14 @@
+pub mod Lexemes
 pub mod Listed
 pub mod Literals
 pub mod Operands
 pub mod Exprs
 pub mod Preds
+pub mod Plain
+pub mod Processes
+pub mod Programs
+pub mod Limits
+pub mod Sizes
+pub mod Refusals
+pub mod Fronts
+pub mod Accepted

@@ -1,5 +1,6 @@
--- Items parted by commas, in the written order.
+-- Items in the written order: parted by commas, or one behind another.
 use Rattle.std.specs.Prelude.{List, [], ◌∷◌, ◌++◌}
+use Rattle.abc_pred.specs.declared.names.Name.{Name}
 use Rattle.abc_grammar.specs.declared.lexemes.Lexeme.{Lexeme}
 use Rattle.abc_grammar.specs.declared.lexemes.Lexeme.TheVariants as l
 use Rattle.abc_grammar.specs.declared.lexemes.Mark.TheVariants as m
@@ -15,3 +16,18 @@ pub data AreListed {A : Type 0} (Item : List Lexeme → A → Type 0) : List Lex
 pub data MayBeListed {A : Type 0} (Item : List Lexeme → A → Type 0) : List Lexeme → List A → Type 0 where
   none : MayBeListed Item [] []
   some : {ts : List Lexeme} {items : List A} → AreListed Item ts items → MayBeListed Item ts items
+
+-- { item }
+pub data AreRepeated {A : Type 0} (Item : List Lexeme → A → Type 0) : List Lexeme → List A → Type 0 where
+  none : AreRepeated Item [] []
+  more :
+      {ts us : List Lexeme} {items : List A} {a : A} →
+      AreRepeated Item ts items → Item us a → AreRepeated Item (ts ++ us) (items ++ a ∷ [])
+
+-- NAME
+pub data IsName : List Lexeme → Name → Type 0 where
+  name : {n : Name} → IsName (l.Name n ∷ []) n
+
+-- VAR
+pub data IsVariable : List Lexeme → Name → Type 0 where
+  variable : {n : Name} → IsVariable (l.Variable n ∷ []) n

@@ -6,5 +6,7 @@
 #![tactic(auto)]
 
 mod lexemes;
+mod limits;
 
 pub use lexemes::{Keyword, Lexeme, Mark};
+pub use limits::{MOST_OPEN, MOST_PARTS, MOST_TOKENS, MOST_WRITTEN};
