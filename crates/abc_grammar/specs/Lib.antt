@@ -12,3 +12,4 @@ pub mod Sizes
 pub mod Refusals
 pub mod Fronts
 pub mod Accepted
+pub mod Laws

@@ -5,8 +5,10 @@
 //! tokens stand for: the parser reads the same type that the grammar speaks of.
 #![tactic(auto)]
 
+mod laws;
 mod lexemes;
 mod limits;
 
+pub use laws::{one_term, preds_balance, refusals_are_one};
 pub use lexemes::{Keyword, Lexeme, Mark};
 pub use limits::{MOST_OPEN, MOST_PARTS, MOST_TOKENS, MOST_WRITTEN};

@@ -1,0 +1,166 @@
+-- A machine that goes over the tokens of an expression.
+use Rattle.std.proofs.Common.{◌≡◌, List, [], ◌∷◌, ◌++◌, Option, Some, None, refl, ap, sym, ◌∙◌, append_assoc}
+use Rattle.abc_pred.specs.Terms.{Operand, Expr}
+use Rattle.abc_pred.specs.Terms as e
+use Rattle.abc_grammar.specs.declared.lexemes.Lexeme.{Lexeme}
+use Rattle.abc_grammar.specs.declared.lexemes.Lexeme.TheVariants as l
+use Rattle.abc_grammar.specs.declared.lexemes.Mark.TheVariants as m
+use Rattle.abc_grammar.specs.declared.lexemes.Keyword.TheVariants as k
+use Rattle.abc_grammar.specs.Listed.{AreListed, MayBeListed}
+use Rattle.abc_grammar.specs.Listed as listed
+use Rattle.abc_grammar.specs.Operands.{IsOperand}
+use Rattle.abc_grammar.specs.Exprs.{IsExpr}
+use Rattle.abc_grammar.specs.Exprs as g
+use Rattle.abc_grammar.proofs.Runs.{run, run_on, run_next, run_end, run_inside}
+use Rattle.abc_grammar.proofs.OperandRuns.{State, start}
+use Rattle.abc_grammar.proofs.OperandRuns as operand
+use Rattle.abc_grammar.proofs.Inner.{value, taken, Stops, Came, came, behind_came}
+
+-- the expressions that are open around one
+pub data Around : Type 0 where
+  Outside : Around
+  UnionLeft : Around → Around
+  UnionRight : Expr → Around → Around
+  WithoutLeft : Around → Around
+  WithoutRight : Expr → Around → Around
+
+-- An expression comes; a bracket comes; an operand of a set comes, behind these; an expression has come.
+pub data ExprState : Type 0 where
+  In : State → Around → ExprState
+  SetBegins : Around → ExprState
+  UnionBegins : Around → ExprState
+  WithoutBegins : Around → ExprState
+  Items : List Operand → State → Around → ExprState
+  Done : Expr → Around → ExprState
+
+abbrev pub behind : Expr → Around → Lexeme → Option ExprState
+behind a (UnionLeft around) (l.Mark m.Comma) = Some (In start (UnionRight a around))
+behind a (UnionRight b around) (l.Mark m.CloseRound) = Some (Done (e.Union b a) around)
+behind a (WithoutLeft around) (l.Mark m.Comma) = Some (In start (WithoutRight a around))
+behind a (WithoutRight b around) (l.Mark m.CloseRound) = Some (Done (e.Without b a) around)
+behind a _ _ = None
+
+abbrev pub begins : Around → Lexeme → Option ExprState
+begins around (l.Keyword k.Set) = Some (SetBegins around)
+begins around (l.Keyword k.Union) = Some (UnionBegins around)
+begins around (l.Keyword k.Without) = Some (WithoutBegins around)
+begins around _ = None
+
+abbrev pub in_set : Around → Lexeme → Option ExprState
+in_set around (l.Mark m.OpenRound) = Some (Items [] start around)
+in_set around _ = None
+
+abbrev pub in_union : Around → Lexeme → Option ExprState
+in_union around (l.Mark m.OpenRound) = Some (In start (UnionLeft around))
+in_union around _ = None
+
+abbrev pub in_without : Around → Lexeme → Option ExprState
+in_without around (l.Mark m.OpenRound) = Some (In start (WithoutLeft around))
+in_without around _ = None
+
+abbrev pub behind_items : Around → List Operand → Lexeme → Option ExprState
+behind_items around items (l.Mark m.Comma) = Some (Items items start around)
+behind_items around items (l.Mark m.CloseRound) = Some (Done (e.SetOf items) around)
+behind_items around items _ = None
+
+abbrev pub behind_item : List Operand → Around → Lexeme → Operand → Option ExprState
+behind_item items around t a = behind_items around (items ++ a ∷ []) t
+
+abbrev pub step : ExprState → Lexeme → Option ExprState
+step (In s around) t = taken (λ r. In r around) (λ a. behind (e.Plain a) around t) (begins around t) (operand.step s t) (value s)
+step (SetBegins around) t = in_set around t
+step (UnionBegins around) t = in_union around t
+step (WithoutBegins around) t = in_without around t
+step (Items items s around) t = taken (λ r. Items items r around) (behind_item items around t) (behind_items around items t) (operand.step s t) (value s)
+step (Done a around) t = behind a around t
+
+-- an expression has come, and what stands behind it is taken up
+pub record Stands (ts : List Lexeme) (around : Around) (a : Expr) : Type 0 where
+  pub state : ExprState
+  pub runs : run step (In start around) ts ≡ Some state
+  pub on : (t : Lexeme) → Stops t → step state t ≡ behind a around t
+
+in_steps : (around : Around) (s r : State) (t : Lexeme) → operand.step s t ≡ Some r → step (In s around) t ≡ Some (In r around)
+in_steps around s r t h = ap (λ o. taken (λ q. In q around) (λ a. behind (e.Plain a) around t) (begins around t) o (value s)) h
+
+item_steps :
+    (items : List Operand) (around : Around) (s r : State) (t : Lexeme) → operand.step s t ≡ Some r →
+    step (Items items s around) t ≡ Some (Items items r around)
+item_steps items around s r t h = ap (λ o. taken (λ q. Items items q around) (behind_item items around t) (behind_items around items t) o (value s)) h
+
+-- the operands of a set have come, and what stands behind them is taken up
+pub record ItemsStand (ts : List Lexeme) (around : Around) (items : List Operand) : Type 0 where
+  pub state : ExprState
+  pub runs : run step (Items [] start around) ts ≡ Some state
+  pub on : (t : Lexeme) → Stops t → step state t ≡ behind_items around items t
+
+item_run :
+    {ts : List Lexeme} {a : Operand} → (c : Came ts a) → (items : List Operand) (around : Around) →
+    run step (Items items start around) ts ≡ Some (Items items c.state around)
+item_run {ts} c items around = run_inside operand.step step (λ s. Items items s around) (item_steps items around) ts start c.state c.runs
+
+item_on :
+    {ts : List Lexeme} {a : Operand} → (c : Came ts a) → (items : List Operand) (around : Around) (t : Lexeme) → Stops t →
+    step (Items items c.state around) t ≡ behind_item items around t a
+item_on {ts} {a} c items around t stops =
+    behind_came (λ s. Items items s around) (behind_item items around t) (behind_items around items t) ts a t c stops
+
+items_run : {ts : List Lexeme} {items : List Operand} → AreListed IsOperand ts items → (around : Around) → ItemsStand ts around items
+items_run (listed.one {ts} {a} h) around =
+    let c : Came ts a = came h in
+    record { state = Items [] c.state around; runs = item_run c [] around; on = item_on c [] around }
+items_run (listed.more {ts} {us} {items} {a} before h) around =
+    let r : ItemsStand ts around items = items_run before around in
+    let c : Came us a = came h in
+    record {
+      state = Items items c.state around;
+      runs = run_on step _ _ _ ts (l.Mark m.Comma ∷ us) r.runs (run_next step _ _ _ (l.Mark m.Comma) us (r.on (l.Mark m.Comma) (λ _ _. refl)) (item_run c items around));
+      on = item_on c items around;
+    }
+
+set_run :
+    {ts : List Lexeme} {items : List Operand} → MayBeListed IsOperand ts items → (around : Around) →
+    run step (Items [] start around) (ts ++ l.Mark m.CloseRound ∷ []) ≡ Some (Done (e.SetOf items) around)
+set_run listed.none around = refl
+set_run (listed.some {ts} {items} h) around =
+    let r : ItemsStand ts around items = items_run h around in
+    run_on step _ _ _ ts (l.Mark m.CloseRound ∷ []) r.runs (run_next step _ _ _ (l.Mark m.CloseRound) [] (r.on (l.Mark m.CloseRound) (λ _ _. refl)) refl)
+
+-- two expressions parted by a comma, and a bracket behind them
+both_run :
+    {a b : Expr} {left right : Around} {end : Option ExprState} (ts us : List Lexeme) → (x : Stands ts left a) → (y : Stands us right b) →
+    behind a left (l.Mark m.Comma) ≡ Some (In start right) → behind b right (l.Mark m.CloseRound) ≡ end →
+    run step (In start left) (ts ++ l.Mark m.Comma ∷ us ++ l.Mark m.CloseRound ∷ []) ≡ end
+both_run ts us x y comma close =
+    run_on step _ _ _ (ts ++ l.Mark m.Comma ∷ us) (l.Mark m.CloseRound ∷ [])
+    (run_on step _ _ _ ts (l.Mark m.Comma ∷ us) x.runs
+    (run_next step _ _ _ (l.Mark m.Comma) us (x.on (l.Mark m.Comma) (λ _ _. refl) ∙ comma) y.runs))
+    (run_end step _ _ _ (y.on (l.Mark m.CloseRound) (λ _ _. refl) ∙ close))
+
+pub expr_run : {ts : List Lexeme} {a : Expr} → IsExpr ts a → (around : Around) → Stands ts around a
+expr_run (g.operand {ts} {a} h) around =
+    let c : Came ts a = came h in
+    record {
+      state = In c.state around;
+      runs = run_inside operand.step step (λ s. In s around) (in_steps around) ts start c.state c.runs;
+      on = λ t stops. behind_came (λ s. In s around) (λ b. behind (e.Plain b) around t) (begins around t) ts a t c stops;
+    }
+expr_run (g.set {ts} {items} h) around = record { state = Done (e.SetOf items) around; runs = set_run h around; on = λ t stops. refl }
+expr_run (g.union {ts} {us} {a} {b} h i) around =
+    let x : Stands ts (UnionLeft around) a = expr_run h (UnionLeft around) in
+    let y : Stands us (UnionRight a around) b = expr_run i (UnionRight a around) in
+    record { state = Done (e.Union a b) around; runs = both_run ts us x y refl refl; on = λ t stops. refl }
+expr_run (g.without {ts} {us} {a} {b} h i) around =
+    let x : Stands ts (WithoutLeft around) a = expr_run h (WithoutLeft around) in
+    let y : Stands us (WithoutRight a around) b = expr_run i (WithoutRight a around) in
+    record { state = Done (e.Without a b) around; runs = both_run ts us x y refl refl; on = λ t stops. refl }
+
+-- The tokens of an expression are in one way an expression.
+pub one_expr : {ts : List Lexeme} {a b : Expr} → IsExpr ts a → IsExpr ts b → a ≡ b
+one_expr {ts} {a} {b} h i =
+    let x : Stands ts (UnionLeft Outside) a = expr_run h (UnionLeft Outside) in
+    let y : Stands ts (UnionLeft Outside) b = expr_run i (UnionLeft Outside) in
+    let s : Some x.state ≡ Some y.state = sym x.runs ∙ y.runs in
+    let p = x.on (l.Mark m.Comma) (λ _ _. refl) in
+    let q = y.on (l.Mark m.Comma) (λ _ _. refl) in
+    cc

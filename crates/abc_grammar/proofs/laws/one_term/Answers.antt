@@ -1,0 +1,11 @@
+use Rattle.abc_grammar.proofs.OperandRuns.{one_operand}
+use Rattle.abc_grammar.proofs.ExprRuns.{one_expr}
+use Rattle.abc_grammar.proofs.PredRuns.{one_pred}
+use Rattle.abc_grammar.proofs.laws.one_term.Goals as goal
+
+pub returns : goal.returns
+returns c = record {
+  operands = λ ts a b h i. one_operand h i;
+  exprs = λ ts a b h i. one_expr h i;
+  preds = λ ts a b h i. one_pred h i;
+}

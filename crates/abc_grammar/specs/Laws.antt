@@ -1,0 +1,40 @@
+-- Laws of the grammar and of refusals.
+use Rattle.std.specs.Prelude.{◌≡◌, ℕ, List, Option}
+use Rattle.abc_cause.specs.declared.Cause.{Cause}
+use Rattle.abc_text.specs.declared.lexical.Fault.{Fault}
+use Rattle.abc_pred.specs.Terms.{Operand, Expr, Pred}
+use Rattle.abc_grammar.specs.declared.lexemes.Lexeme.{Lexeme}
+use Rattle.abc_grammar.specs.Operands.{IsOperand}
+use Rattle.abc_grammar.specs.Exprs.{IsExpr}
+use Rattle.abc_grammar.specs.Preds.{IsPred}
+use Rattle.abc_grammar.specs.Limits.{open_behind}
+use Rattle.abc_grammar.specs.Refusals.{IsFirstOfProgram, IsFirstOfPred}
+
+-- ---- one term
+-- A list of tokens is at most one operand, one expression, one predicate.
+abbrev pub OneOperand : Type 0
+OneOperand = (ts : List Lexeme) (a b : Operand) → IsOperand ts a → IsOperand ts b → a ≡ b
+
+abbrev pub OneExpr : Type 0
+OneExpr = (ts : List Lexeme) (a b : Expr) → IsExpr ts a → IsExpr ts b → a ≡ b
+
+abbrev pub OnePred : Type 0
+OnePred = (ts : List Lexeme) (a b : Pred) → IsPred ts a → IsPred ts b → a ≡ b
+
+-- ---- brackets
+-- The tokens of a term close each bracket that they open and no other: as many are open behind them as before.
+abbrev pub Balanced : List Lexeme → Type 0
+Balanced ts = (n : ℕ) → open_behind n ts ≡ n
+
+abbrev pub PredsBalance : Type 0
+PredsBalance = (ts : List Lexeme) (a : Pred) → IsPred ts a → Balanced ts
+
+-- ---- one refusal
+-- A text has at most one refusal as a program, and at most one as a predicate: one token and one cause.
+abbrev pub OneRefusal : (List Lexeme → Option Fault → Cause → ℕ → Type 0) → Type 0
+OneRefusal IsFirst =
+    (ts : List Lexeme) (fault : Option Fault) (c d : Cause) (j k : ℕ) → IsFirst ts fault c j → IsFirst ts fault d k → (c ≡ d) × (j ≡ k)
+
+pub record RefusalsAreOne : Type 0 where
+  pub programs : OneRefusal IsFirstOfProgram
+  pub preds : OneRefusal IsFirstOfPred
