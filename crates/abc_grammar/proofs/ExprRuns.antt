@@ -11,10 +11,11 @@ use Rattle.abc_grammar.specs.Listed as listed
 use Rattle.abc_grammar.specs.Operands.{IsOperand}
 use Rattle.abc_grammar.specs.Exprs.{IsExpr}
 use Rattle.abc_grammar.specs.Exprs as g
-use Rattle.abc_grammar.proofs.Runs.{run, run_on, run_next, run_end, run_inside}
+use Rattle.abc_grammar.proofs.Runs.{run, run_on, run_next, run_end}
 use Rattle.abc_grammar.proofs.OperandRuns.{State, start}
 use Rattle.abc_grammar.proofs.OperandRuns as operand
-use Rattle.abc_grammar.proofs.Inner.{value, taken, Stops, Came, came, behind_came}
+use Rattle.abc_grammar.proofs.Embedded.{taken, Came, inside_run, behind_came}
+use Rattle.abc_grammar.proofs.Inner.{value, Stops, OperandCame, came}
 
 -- the expressions that are open around one
 pub data Around : Type 0 where
@@ -74,19 +75,26 @@ step (WithoutBegins around) t = in_without around t
 step (Items items s around) t = taken (λ r. Items items r around) (behind_item items around t) (behind_items around items t) (operand.step s t) (value s)
 step (Done a around) t = behind a around t
 
+-- the expression that has come, where none is open
+abbrev pub plain : Option Operand → Option Expr
+plain None = None
+plain (Some a) = Some (e.Plain a)
+
+abbrev pub value_expr : ExprState → Option Expr
+value_expr (In s Outside) = plain (value s)
+value_expr (Done a Outside) = Some a
+value_expr _ = None
+
+abbrev pub outermost : Expr → Around → Option Expr
+outermost a Outside = Some a
+outermost a _ = None
+
 -- an expression has come, and what stands behind it is taken up
 pub record Stands (ts : List Lexeme) (around : Around) (a : Expr) : Type 0 where
   pub state : ExprState
   pub runs : run step (In start around) ts ≡ Some state
   pub on : (t : Lexeme) → Stops t → step state t ≡ behind a around t
-
-in_steps : (around : Around) (s r : State) (t : Lexeme) → operand.step s t ≡ Some r → step (In s around) t ≡ Some (In r around)
-in_steps around s r t h = ap (λ o. taken (λ q. In q around) (λ a. behind (e.Plain a) around t) (begins around t) o (value s)) h
-
-item_steps :
-    (items : List Operand) (around : Around) (s r : State) (t : Lexeme) → operand.step s t ≡ Some r →
-    step (Items items s around) t ≡ Some (Items items r around)
-item_steps items around s r t h = ap (λ o. taken (λ q. Items items q around) (behind_item items around t) (behind_items around items t) o (value s)) h
+  pub whole : value_expr state ≡ outermost a around
 
 -- the operands of a set have come, and what stands behind them is taken up
 pub record ItemsStand (ts : List Lexeme) (around : Around) (items : List Operand) : Type 0 where
@@ -94,24 +102,21 @@ pub record ItemsStand (ts : List Lexeme) (around : Around) (items : List Operand
   pub runs : run step (Items [] start around) ts ≡ Some state
   pub on : (t : Lexeme) → Stops t → step state t ≡ behind_items around items t
 
-item_run :
-    {ts : List Lexeme} {a : Operand} → (c : Came ts a) → (items : List Operand) (around : Around) →
-    run step (Items items start around) ts ≡ Some (Items items c.state around)
-item_run {ts} c items around = run_inside operand.step step (λ s. Items items s around) (item_steps items around) ts start c.state c.runs
+item_run : {ts : List Lexeme} {a : Operand} → (c : OperandCame ts a) → (items : List Operand) (around : Around) → run step (Items items start around) ts ≡ Some (Items items c.state around)
+item_run {ts} {a} c items around =
+    inside_run operand.step value Stops start step (λ s. Items items s around) (behind_item items around) (behind_items around items) (λ s t. refl) ts a c
 
-item_on :
-    {ts : List Lexeme} {a : Operand} → (c : Came ts a) → (items : List Operand) (around : Around) (t : Lexeme) → Stops t →
-    step (Items items c.state around) t ≡ behind_item items around t a
+item_on : {ts : List Lexeme} {a : Operand} → (c : OperandCame ts a) → (items : List Operand) (around : Around) (t : Lexeme) → Stops t → step (Items items c.state around) t ≡ behind_item items around t a
 item_on {ts} {a} c items around t stops =
-    behind_came (λ s. Items items s around) (behind_item items around t) (behind_items around items t) ts a t c stops
+    behind_came operand.step value Stops start step (λ s. Items items s around) (behind_item items around) (behind_items around items) (λ s t. refl) ts a c t stops
 
 items_run : {ts : List Lexeme} {items : List Operand} → AreListed IsOperand ts items → (around : Around) → ItemsStand ts around items
 items_run (listed.one {ts} {a} h) around =
-    let c : Came ts a = came h in
+    let c : OperandCame ts a = came h in
     record { state = Items [] c.state around; runs = item_run c [] around; on = item_on c [] around }
 items_run (listed.more {ts} {us} {items} {a} before h) around =
     let r : ItemsStand ts around items = items_run before around in
-    let c : Came us a = came h in
+    let c : OperandCame us a = came h in
     record {
       state = Items items c.state around;
       runs = run_on step _ _ _ ts (l.Mark m.Comma ∷ us) r.runs (run_next step _ _ _ (l.Mark m.Comma) us (r.on (l.Mark m.Comma) (λ _ _. refl)) (item_run c items around));
@@ -137,23 +142,46 @@ both_run ts us x y comma close =
     (run_next step _ _ _ (l.Mark m.Comma) us (x.on (l.Mark m.Comma) (λ _ _. refl) ∙ comma) y.runs))
     (run_end step _ _ _ (y.on (l.Mark m.CloseRound) (λ _ _. refl) ∙ close))
 
+plain_whole : (s : State) (a : Operand) (around : Around) → value s ≡ Some a → value_expr (In s around) ≡ outermost (e.Plain a) around
+plain_whole s a Outside h = ap plain h
+plain_whole s a (UnionLeft around) h = refl
+plain_whole s a (UnionRight b around) h = refl
+plain_whole s a (WithoutLeft around) h = refl
+plain_whole s a (WithoutRight b around) h = refl
+
+done_whole : (a : Expr) (around : Around) → value_expr (Done a around) ≡ outermost a around
+done_whole a Outside = refl
+done_whole a (UnionLeft around) = refl
+done_whole a (UnionRight b around) = refl
+done_whole a (WithoutLeft around) = refl
+done_whole a (WithoutRight b around) = refl
+
 pub expr_run : {ts : List Lexeme} {a : Expr} → IsExpr ts a → (around : Around) → Stands ts around a
 expr_run (g.operand {ts} {a} h) around =
-    let c : Came ts a = came h in
+    let c : OperandCame ts a = came h in
     record {
       state = In c.state around;
-      runs = run_inside operand.step step (λ s. In s around) (in_steps around) ts start c.state c.runs;
-      on = λ t stops. behind_came (λ s. In s around) (λ b. behind (e.Plain b) around t) (begins around t) ts a t c stops;
+      runs = inside_run operand.step value Stops start step (λ s. In s around) (λ t b. behind (e.Plain b) around t) (begins around) (λ s t. refl) ts a c;
+      on = λ t stops. behind_came operand.step value Stops start step (λ s. In s around) (λ t b. behind (e.Plain b) around t) (begins around) (λ s t. refl) ts a c t stops;
+      whole = plain_whole c.state a around c.whole;
     }
-expr_run (g.set {ts} {items} h) around = record { state = Done (e.SetOf items) around; runs = set_run h around; on = λ t stops. refl }
+expr_run (g.set {ts} {items} h) around = record { state = Done (e.SetOf items) around; runs = set_run h around; on = λ t stops. refl; whole = done_whole (e.SetOf items) around }
 expr_run (g.union {ts} {us} {a} {b} h i) around =
     let x : Stands ts (UnionLeft around) a = expr_run h (UnionLeft around) in
     let y : Stands us (UnionRight a around) b = expr_run i (UnionRight a around) in
-    record { state = Done (e.Union a b) around; runs = both_run ts us x y refl refl; on = λ t stops. refl }
+    record { state = Done (e.Union a b) around; runs = both_run ts us x y refl refl; on = λ t stops. refl; whole = done_whole (e.Union a b) around }
 expr_run (g.without {ts} {us} {a} {b} h i) around =
     let x : Stands ts (WithoutLeft around) a = expr_run h (WithoutLeft around) in
     let y : Stands us (WithoutRight a around) b = expr_run i (WithoutRight a around) in
-    record { state = Done (e.Without a b) around; runs = both_run ts us x y refl refl; on = λ t stops. refl }
+    record { state = Done (e.Without a b) around; runs = both_run ts us x y refl refl; on = λ t stops. refl; whole = done_whole (e.Without a b) around }
+
+abbrev pub ExprCame : List Lexeme → Expr → Type 0
+ExprCame ts a = Came step value_expr Stops (In start Outside) ts a
+
+pub expr_came : {ts : List Lexeme} {a : Expr} → IsExpr ts a → ExprCame ts a
+expr_came {ts} {a} h =
+    let r : Stands ts Outside a = expr_run h Outside in
+    record { state = r.state; runs = r.runs; whole = r.whole; stops = λ t e. r.on t e }
 
 -- The tokens of an expression are in one way an expression.
 pub one_expr : {ts : List Lexeme} {a b : Expr} → IsExpr ts a → IsExpr ts b → a ≡ b

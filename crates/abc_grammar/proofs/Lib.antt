@@ -1,7 +1,10 @@
 pub mod Runs
 pub mod OperandRuns
+pub mod Embedded
 pub mod Inner
 pub mod ExprRuns
 pub mod PredRuns
 pub mod Balance
 pub mod OneRefusal
+pub mod ProcessRuns
+pub mod ProgramRuns

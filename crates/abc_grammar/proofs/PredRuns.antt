@@ -9,10 +9,11 @@ use Rattle.abc_grammar.specs.declared.lexemes.Keyword.TheVariants as k
 use Rattle.abc_grammar.specs.Operands.{IsOperand}
 use Rattle.abc_grammar.specs.Preds.{IsPred, IsBoth, IsTest}
 use Rattle.abc_grammar.specs.Preds as g
-use Rattle.abc_grammar.proofs.Runs.{run, run_on, run_next, run_end, run_inside}
+use Rattle.abc_grammar.proofs.Runs.{run, run_on, run_next, run_end}
 use Rattle.abc_grammar.proofs.OperandRuns.{State, start}
 use Rattle.abc_grammar.proofs.OperandRuns as operand
-use Rattle.abc_grammar.proofs.Inner.{value, taken, Stops, Came, came, behind_came}
+use Rattle.abc_grammar.proofs.Embedded.{taken, Came, inside_run, through, behind_came}
+use Rattle.abc_grammar.proofs.Inner.{value, Stops, OperandCame, came}
 
 -- what stands to the left of an `or`, and of an `and`
 abbrev pub ored : Option Pred → Pred → Pred
@@ -89,15 +90,6 @@ step (First s before around) t = taken (λ r. First r before around) (compared b
 step (Second r a s before around) t = taken (λ q. Second r a q before around) (λ b. behind_test (related r a b) before around t) None (operand.step s t) (value s)
 step (Done a before around) t = behind_test a before around t
 
-first_steps : (before : Left) (around : Around) (s r : State) (t : Lexeme) → operand.step s t ≡ Some r → step (First s before around) t ≡ Some (First r before around)
-first_steps before around s r t h = ap (λ o. taken (λ q. First q before around) (compared before around t) (begins before around t) o (value s)) h
-
-second_steps :
-    (relation : Relation) (a : Operand) (before : Left) (around : Around) (s r : State) (t : Lexeme) → operand.step s t ≡ Some r →
-    step (Second relation a s before around) t ≡ Some (Second relation a r before around)
-second_steps relation a before around s r t h =
-    ap (λ o. taken (λ q. Second relation a q before around) (λ b. behind_test (related relation a b) before around t) None o (value s)) h
-
 -- a test has come, and what stands behind it is taken up
 pub record TestStands (ts : List Lexeme) (before : Left) (around : Around) (a : Pred) : Type 0 where
   pub state : PredState
@@ -124,15 +116,14 @@ related_run :
     (before : Left) (around : Around) → compared before around sign a ≡ Some (Second relation a start before around) →
     TestStands (ts ++ sign ∷ us) before around (related relation a b)
 related_run {ts} {us} {a} {b} relation sign h i stops before around is =
-    let x : Came ts a = came h in
-    let y : Came us b = came i in
+    let y : OperandCame us b = came i in
     record {
       state = Second relation a y.state before around;
-      runs = run_on step _ (First x.state before around) _ ts (sign ∷ us) (run_inside operand.step step (λ s. First s before around) (first_steps before around) ts start x.state x.runs)
-          (run_next step (First x.state before around) (Second relation a start before around) _ sign us
-          (behind_came (λ s. First s before around) (compared before around sign) (begins before around sign) ts a sign x stops ∙ is)
-          (run_inside operand.step step (λ s. Second relation a s before around) (second_steps relation a before around) us start y.state y.runs));
-      on = λ t e. behind_came (λ s. Second relation a s before around) (λ c. behind_test (related relation a c) before around t) None us b t y e;
+      runs =
+          through operand.step value Stops start step (λ s. First s before around) (compared before around) (begins before around) (λ s t. refl)
+          ts a (came h) sign stops (Second relation a start before around) us (Some (Second relation a y.state before around)) is
+          (inside_run operand.step value Stops start step (λ s. Second relation a s before around) (λ t c. behind_test (related relation a c) before around t) (λ t. None) (λ s t. refl) us b y);
+      on = behind_came operand.step value Stops start step (λ s. Second relation a s before around) (λ t c. behind_test (related relation a c) before around t) (λ t. None) (λ s t. refl) us b y;
     }
 
 mutual
@@ -183,6 +174,38 @@ mutual
   test_run (g.same h i) before around = related_run Same (l.Mark m.Equal) h i (λ _ _. refl) before around refl
   test_run (g.below h i) before around = related_run Below (l.Mark m.Below) h i (λ _ _. refl) before around refl
   test_run (g.member h i) before around = related_run Member (l.Keyword k.In) h i (λ _ _. refl) before around refl
+
+-- ---- a predicate that ends is put into brackets
+abbrev pub bracket : Around
+bracket = Inside (left None None 0) Outside
+
+abbrev pub pred_start : PredState
+pred_start = First start (left None None 0) bracket
+
+abbrev pub done : Option PredState → Option Pred
+done (Some (Done a before around)) = Some a
+done _ = None
+
+abbrev pub value_pred : PredState → Option Pred
+value_pred s = done (step s (l.Mark m.CloseSquare))
+
+-- no predicate in brackets goes on with this token
+pub record StopsPred (t : Lexeme) : Type 0 where
+  pub operand : Stops t
+  pub pred : (or : Option Pred) (a : Pred) → behind_both or a bracket t ≡ None
+
+abbrev pub PredCame : List Lexeme → Pred → Type 0
+PredCame ts a = Came step value_pred StopsPred pred_start ts a
+
+pub pred_came : {ts : List Lexeme} {a : Pred} → IsPred ts a → PredCame ts a
+pred_came {ts} {a} h =
+    let r : PredStands ts bracket a = pred_run h bracket in
+    record {
+      state = r.state;
+      runs = r.runs;
+      whole = ap done (r.on (l.Mark m.CloseSquare) (λ _ _. refl)) ∙ ap Some r.is;
+      stops = λ t e. r.on t e.operand ∙ e.pred r.or r.last;
+    }
 
 -- The tokens of a predicate are in one way a predicate.
 pub one_pred : {ts : List Lexeme} {a b : Pred} → IsPred ts a → IsPred ts b → a ≡ b

@@ -3,10 +3,14 @@ use Rattle.std.specs.Prelude.{◌≡◌, ℕ, List, Option}
 use Rattle.abc_cause.specs.declared.Cause.{Cause}
 use Rattle.abc_text.specs.declared.lexical.Fault.{Fault}
 use Rattle.abc_pred.specs.Terms.{Operand, Expr, Pred}
+use Rattle.abc_term.specs.Processes.{Process}
 use Rattle.abc_grammar.specs.declared.lexemes.Lexeme.{Lexeme}
 use Rattle.abc_grammar.specs.Operands.{IsOperand}
 use Rattle.abc_grammar.specs.Exprs.{IsExpr}
 use Rattle.abc_grammar.specs.Preds.{IsPred}
+use Rattle.abc_grammar.specs.Plain.{PlainProgram}
+use Rattle.abc_grammar.specs.Processes.{IsProcess}
+use Rattle.abc_grammar.specs.Programs.{IsProgram}
 use Rattle.abc_grammar.specs.Limits.{open_behind}
 use Rattle.abc_grammar.specs.Refusals.{IsFirstOfProgram, IsFirstOfPred}
 
@@ -20,6 +24,13 @@ OneExpr = (ts : List Lexeme) (a b : Expr) → IsExpr ts a → IsExpr ts b → a 
 
 abbrev pub OnePred : Type 0
 OnePred = (ts : List Lexeme) (a b : Pred) → IsPred ts a → IsPred ts b → a ≡ b
+
+-- and at most one process, and one program
+abbrev pub OneProcess : Type 0
+OneProcess = (ts : List Lexeme) (A B : Process) → IsProcess ts A → IsProcess ts B → A ≡ B
+
+abbrev pub OneProgram : Type 0
+OneProgram = (ts : List Lexeme) (p q : PlainProgram) → IsProgram ts p → IsProgram ts q → p ≡ q
 
 -- ---- brackets
 -- The tokens of a term close each bracket that they open and no other: as many are open behind them as before.

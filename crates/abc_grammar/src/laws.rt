@@ -1,11 +1,13 @@
 //! Laws of the definitions, each the contract of a function that does nothing.
-ghost use Rattle.abc_grammar.specs.Laws.{OneOperand, OneExpr, OnePred, PredsBalance, RefusalsAreOne};
+ghost use Rattle.abc_grammar.specs.Laws.{OneOperand, OneExpr, OnePred, OneProcess, OneProgram, PredsBalance, RefusalsAreOne};
 
-/// A list of tokens is at most one operand, at most one expression and at most one predicate.
+/// A list of tokens is at most one operand, one expression, one predicate, one process and one program.
 pub fn one_term()
     ensures operands { OneOperand }
     ensures exprs { OneExpr }
     ensures preds { OnePred }
+    ensures processes { OneProcess }
+    ensures programs { OneProgram }
 {}
 
 /// The tokens of a predicate close each bracket that they open, and no other.
