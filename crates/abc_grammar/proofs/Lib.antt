@@ -8,3 +8,4 @@ pub mod Balance
 pub mod OneRefusal
 pub mod ProcessRuns
 pub mod ProgramRuns
+pub mod LexemesMeant

@@ -13,3 +13,4 @@ pub mod Refusals
 pub mod Fronts
 pub mod Accepted
 pub mod Laws
+pub mod LexemeLaws

@@ -1,5 +1,6 @@
 //! Laws of the definitions, each the contract of a function that does nothing.
 ghost use Rattle.abc_grammar.specs.Laws.{OneOperand, OneExpr, OnePred, OneProcess, OneProgram, PredsBalance, RefusalsAreOne};
+ghost use Rattle.abc_grammar.specs.LexemeLaws.{LexemesAgree};
 
 /// A list of tokens is at most one operand, one expression, one predicate, one process and one program.
 pub fn one_term()
@@ -18,4 +19,10 @@ pub fn preds_balance()
 /// A text has at most one refusal, one token and one cause.
 pub fn refusals_are_one()
     ensures { RefusalsAreOne }
+{}
+
+/// What tokens stand for agrees with what tokens are: the keywords are the same, each symbol of a text
+/// is a mark, and a token names what its lexeme names.
+pub fn lexemes_agree()
+    ensures { LexemesAgree }
 {}

@@ -9,6 +9,6 @@ mod laws;
 mod lexemes;
 mod limits;
 
-pub use laws::{one_term, preds_balance, refusals_are_one};
+pub use laws::{lexemes_agree, one_term, preds_balance, refusals_are_one};
 pub use lexemes::{Keyword, Lexeme, Mark};
 pub use limits::{MOST_OPEN, MOST_PARTS, MOST_TOKENS, MOST_WRITTEN};
