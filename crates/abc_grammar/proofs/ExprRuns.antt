@@ -140,7 +140,7 @@ both_run ts us x y comma close =
     run_on step _ _ _ (ts ++ l.Mark m.Comma ∷ us) (l.Mark m.CloseRound ∷ [])
     (run_on step _ _ _ ts (l.Mark m.Comma ∷ us) x.runs
     (run_next step _ _ _ (l.Mark m.Comma) us (x.on (l.Mark m.Comma) (λ _ _. refl) ∙ comma) y.runs))
-    (run_end step _ _ _ (y.on (l.Mark m.CloseRound) (λ _ _. refl) ∙ close))
+    (run_end step y.state (l.Mark m.CloseRound) _ (y.on (l.Mark m.CloseRound) (λ _ _. refl) ∙ close))
 
 plain_whole : (s : State) (a : Operand) (around : Around) → value s ≡ Some a → value_expr (In s around) ≡ outermost (e.Plain a) around
 plain_whole s a Outside h = ap plain h

@@ -9,3 +9,4 @@ pub mod OneRefusal
 pub mod ProcessRuns
 pub mod ProgramRuns
 pub mod LexemesMeant
+pub mod Worked

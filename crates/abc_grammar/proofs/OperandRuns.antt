@@ -6,6 +6,7 @@ use Rattle.abc_value.specs.declared.scalar.Scalar.TheVariants as s
 use Rattle.abc_value.specs.declared.value.Value.{Value}
 use Rattle.abc_value.specs.declared.value.Value.TheVariants as v
 use Rattle.abc_value.specs.Sets.{set_of}
+use Rattle.abc_value.specs.Values.{fits_64}
 use Rattle.abc_pred.specs.declared.names.Name.{Name}
 use Rattle.abc_pred.specs.Terms.{Operand}
 use Rattle.abc_pred.specs.Terms as o
@@ -19,7 +20,7 @@ use Rattle.abc_grammar.specs.Literals.{IsScalar, IsLiteral}
 use Rattle.abc_grammar.specs.Literals as lit
 use Rattle.abc_grammar.specs.Operands.{IsOperand, IsProduct, IsAtom}
 use Rattle.abc_grammar.specs.Operands as g
-use Rattle.abc_grammar.proofs.Runs.{run, run_on}
+use Rattle.abc_grammar.proofs.Runs.{then_run, run, run_on}
 
 -- what a closing bracket makes of the operand in it
 pub data Bracket : Type 0 where
@@ -73,8 +74,13 @@ atom_come sum factor around a = Some (Have sum (multiplied factor a) around)
 abbrev pub scalar_come : Left → Option Operand → Around → Scalar → Option State
 scalar_come sum factor around x = atom_come sum factor around (o.Literal (v.Scalar x))
 
+-- a number, if it is one of 64 bits
+abbrev pub counted : Bool → Option State → Option State
+counted true o = o
+counted false o = None
+
 abbrev pub wanting : Left → Option Operand → Around → Lexeme → Option State
-wanting sum factor around (l.Number n) = scalar_come sum factor around (s.Number (pos n))
+wanting sum factor around (l.Number n) = counted (fits_64 (pos n)) (scalar_come sum factor around (s.Number (pos n)))
 wanting sum factor around (l.Text bytes) = scalar_come sum factor around (s.Text bytes)
 wanting sum factor around (l.Keyword k.True) = scalar_come sum factor around (s.Truth true)
 wanting sum factor around (l.Keyword k.False) = scalar_come sum factor around (s.Truth false)
@@ -101,7 +107,7 @@ having sum a around (l.Mark m.CloseRound) = close around (summed sum a)
 having sum a around _ = None
 
 abbrev pub signed : Left → Option Operand → Around → Lexeme → Option State
-signed sum factor around (l.Number n) = scalar_come sum factor around (s.Number (neg_ℤ (pos n)))
+signed sum factor around (l.Number n) = counted (fits_64 (neg_ℤ (pos n))) (scalar_come sum factor around (s.Number (neg_ℤ (pos n))))
 signed sum factor around _ = None
 
 abbrev pub owned : Left → Option Operand → Around → Lexeme → Option State
@@ -123,7 +129,7 @@ abbrev pub member : Left → Option Operand → Around → List Scalar → Scala
 member sum factor around xs x = Some (Member sum factor around (xs ++ x ∷ []))
 
 abbrev pub members : Left → Option Operand → Around → List Scalar → Lexeme → Option State
-members sum factor around xs (l.Number n) = member sum factor around xs (s.Number (pos n))
+members sum factor around xs (l.Number n) = counted (fits_64 (pos n)) (member sum factor around xs (s.Number (pos n)))
 members sum factor around xs (l.Text bytes) = member sum factor around xs (s.Text bytes)
 members sum factor around xs (l.Keyword k.True) = member sum factor around xs (s.Truth true)
 members sum factor around xs (l.Keyword k.False) = member sum factor around xs (s.Truth false)
@@ -137,7 +143,7 @@ behind_member sum factor around xs (l.Mark m.CloseCurly) = set_come sum factor a
 behind_member sum factor around xs _ = None
 
 abbrev pub signed_member : Left → Option Operand → Around → List Scalar → Lexeme → Option State
-signed_member sum factor around xs (l.Number n) = member sum factor around xs (s.Number (neg_ℤ (pos n)))
+signed_member sum factor around xs (l.Number n) = counted (fits_64 (neg_ℤ (pos n))) (member sum factor around xs (s.Number (neg_ℤ (pos n))))
 signed_member sum factor around xs _ = None
 
 abbrev pub step : State → Lexeme → Option State
@@ -155,8 +161,8 @@ step (MemberSign sum factor around xs) t = signed_member sum factor around xs t
 pub scalar_run :
     {ts : List Lexeme} {x : Scalar} → IsScalar ts x → (sum : Left) (factor : Option Operand) (around : Around) →
     run step (Want sum factor around) ts ≡ scalar_come sum factor around x
-scalar_run (lit.number h) sum factor around = refl
-scalar_run (lit.negative h) sum factor around = refl
+scalar_run (lit.number {n} h) sum factor around = ap (λ b. then_run (λ r. Some r) (counted b (scalar_come sum factor around (s.Number (pos n))))) h
+scalar_run (lit.negative {n} h) sum factor around = ap (λ b. then_run (λ r. Some r) (counted b (scalar_come sum factor around (s.Number (neg_ℤ (pos n)))))) h
 scalar_run lit.text sum factor around = refl
 scalar_run lit.yes sum factor around = refl
 scalar_run lit.no sum factor around = refl
@@ -164,8 +170,8 @@ scalar_run lit.no sum factor around = refl
 member_run :
     {ts : List Lexeme} {x : Scalar} → IsScalar ts x → (sum : Left) (factor : Option Operand) (around : Around) (xs : List Scalar) →
     run step (Members sum factor around xs) ts ≡ member sum factor around xs x
-member_run (lit.number h) sum factor around xs = refl
-member_run (lit.negative h) sum factor around xs = refl
+member_run (lit.number {n} h) sum factor around xs = ap (λ b. then_run (λ r. Some r) (counted b (member sum factor around xs (s.Number (pos n))))) h
+member_run (lit.negative {n} h) sum factor around xs = ap (λ b. then_run (λ r. Some r) (counted b (member sum factor around xs (s.Number (neg_ℤ (pos n)))))) h
 member_run lit.text sum factor around xs = refl
 member_run lit.yes sum factor around xs = refl
 member_run lit.no sum factor around xs = refl
@@ -229,7 +235,7 @@ mutual
   product_run (g.atom h) sum around = atom_run h sum None around
   product_run (g.times {ts} {us} {a} {b} h i) sum around = run_on step _ _ _ ts (l.Mark m.Star ∷ us) (product_run h sum around) (atom_run i sum (Some a) around)
 
-  atom_run :
+  pub atom_run :
       {ts : List Lexeme} {a : Operand} → IsAtom ts a → (sum : Left) (factor : Option Operand) (around : Around) →
       run step (Want sum factor around) ts ≡ atom_come sum factor around a
   atom_run (g.literal h) sum factor around = literal_run h sum factor around

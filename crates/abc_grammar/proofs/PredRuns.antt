@@ -168,7 +168,7 @@ mutual
       record {
         state = Done a before around;
         runs = run_on step _ _ _ ts (l.Mark m.CloseSquare ∷ []) r.runs
-            (run_end step _ _ _ (r.on (l.Mark m.CloseSquare) (λ _ _. refl) ∙ ap (λ c. Some (Done c before around)) r.is));
+            (run_end step r.state (l.Mark m.CloseSquare) _ (r.on (l.Mark m.CloseSquare) (λ _ _. refl) ∙ ap (λ c. Some (Done c before around)) r.is));
         on = λ t e. refl;
       }
   test_run (g.same h i) before around = related_run Same (l.Mark m.Equal) h i (λ _ _. refl) before around refl

@@ -14,3 +14,4 @@ pub mod Fronts
 pub mod Accepted
 pub mod Laws
 pub mod LexemeLaws
+pub mod Examples

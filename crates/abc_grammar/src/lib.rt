@@ -5,10 +5,12 @@
 //! tokens stand for: the parser reads the same type that the grammar speaks of.
 #![tactic(auto)]
 
+mod examples;
 mod laws;
 mod lexemes;
 mod limits;
 
+pub use examples::{what_is_no_term, worked_lexemes, worked_refusals, worked_terms};
 pub use laws::{lexemes_agree, one_term, preds_balance, refusals_are_one};
 pub use lexemes::{Keyword, Lexeme, Mark};
 pub use limits::{MOST_OPEN, MOST_PARTS, MOST_TOKENS, MOST_WRITTEN};
