@@ -10,3 +10,5 @@ pub mod ProcessRuns
 pub mod ProgramRuns
 pub mod LexemesMeant
 pub mod Worked
+pub mod FactsAlike
+pub mod OneText

@@ -14,4 +14,5 @@ pub mod Fronts
 pub mod Accepted
 pub mod Laws
 pub mod LexemeLaws
+pub mod TextLaws
 pub mod Examples

@@ -1,6 +1,7 @@
 //! Laws of the definitions, each the contract of a function that does nothing.
 ghost use Rattle.abc_grammar.specs.Laws.{OneOperand, OneExpr, OnePred, OneProcess, OneProgram, PredsBalance, RefusalsAreOne};
 ghost use Rattle.abc_grammar.specs.LexemeLaws.{LexemesAgree};
+ghost use Rattle.abc_grammar.specs.TextLaws.{FrontsAreOne, TextsAreOne};
 
 /// A list of tokens is at most one operand, one expression, one predicate, one process and one program.
 pub fn one_term()
@@ -25,4 +26,14 @@ pub fn refusals_are_one()
 /// is a mark, and a token names what its lexeme names.
 pub fn lexemes_agree()
     ensures { LexemesAgree }
+{}
+
+/// A text begins with one predicate, or with none and is refused at one place for one cause.
+pub fn fronts_are_one()
+    ensures { FrontsAreOne }
+{}
+
+/// A text is accepted as one program, or refused at one place for one cause, and not both.
+pub fn texts_are_one()
+    ensures { TextsAreOne }
 {}
