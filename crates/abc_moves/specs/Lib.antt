@@ -4,4 +4,5 @@ pub mod Bodies
 pub mod Trees
 pub mod Labels
 pub mod Hears
+pub mod Interfaces
 pub mod Lives

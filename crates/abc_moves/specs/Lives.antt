@@ -7,10 +7,10 @@ use Rattle.abc_term.specs.Standing.{definitions_of, component_of}
 use Rattle.abc_term.specs.Speaking.{Label, Speaks}
 use Rattle.abc_term.specs.Processes as term
 use Rattle.abc_moves.specs.declared.live.Live.{Live}
-use Rattle.abc_moves.specs.Trees.{process_in}
+use Rattle.abc_moves.specs.Trees.{parts}
 
 abbrev pub component_in : Live → term.Component
-component_in l = record { env = l.env; interface = l.interface; process = process_in l.tree }
+component_in l = parts l.env l.interface l.tree
 
 abbrev pub definitions_in : Live → term.Definitions
 definitions_in l = definitions_of l.program.now.definitions

@@ -33,6 +33,10 @@ breadth_at depth defs P = breadth_of (call_breadth depth defs) P
 abbrev pub SaysAt : ℕ → Definitions → Entries → List Name → Process → ℕ → Label → Entries → Process → Type 0
 SaysAt depth defs env interface P k l e R = Says env interface (call_outs depth defs env) (CallSays depth defs env interface) P k l e R
 
+-- The output at a place has this label.
+abbrev pub IsSaidAt : ℕ → Definitions → Entries → List Name → Process → ℕ → Label → Type 0
+IsSaidAt depth defs env interface P k l = (e : Entries) × (R : Process) × SaysAt depth defs env interface P k l e R
+
 -- The number of inputs that take a message.
 abbrev pub ins_at : ℕ → Definitions → Label → Entries → List Name → Process → ℕ
 ins_at depth defs l env interface P = ins_of l env interface (call_ins depth defs l env interface) P

@@ -4,15 +4,15 @@ ghost use Rattle.abc_term.specs.Speaking.{Speaks, outs};
 ghost use Rattle.abc_term.specs.Hearing.{Hears, ins};
 ghost use Rattle.abc_moves.specs.Labels.{label_of};
 ghost use Rattle.abc_moves.specs.Lives.{component_in, definitions_in, BeginsAs, StartsAs, IsSaid};
+ghost use Rattle.abc_moves.specs.Trees.{parts, process_in};
 
-use crate::hearing::Taken;
+use crate::around::Around;
 use crate::label::Label;
-use crate::leaves::{hear_at, inputs_of, outputs_of, speak_at};
+use crate::leaves::{Said, hear_at, inputs_of, label_at, outputs_of, speak_at};
 use crate::live::Live;
 use crate::scope::Scope;
-use crate::speaking::Spoken;
+use crate::speaking::copied;
 use crate::tree::Tree;
-use crate::walk::Around;
 use abc_pred::{Env, Interface, Name};
 use abc_term::{Component, Program};
 use abc_value::{NoMemory, Value};
@@ -37,16 +37,8 @@ impl<'p> Live<'p> {
         requires { outs (definitions_in self.now) (component_in self.now) < 2 ^ 32 }
         ensures { result ≡ outs (definitions_in self.now) (component_in self.now) }
     {
-        let unbound = Scope::empty(self.alloc);
-        let nobody = Env::empty(self.alloc);
-        let at = Around {
-            definitions: self.program.definitions.as_slice(),
-            env: &self.env,
-            interface: &self.interface,
-            unbound: &unbound,
-            nobody: &nobody,
-        };
-        outputs_of(&at, depth_of(self.program), &self.tree)
+        let at = Around::new(self.alloc, self.program, &self.env, &self.interface);
+        outputs_of(&at, at.depth(), &self.tree)
     }
 
     /// Whether an output is enabled. It takes no memory.
@@ -62,16 +54,8 @@ impl<'p> Live<'p> {
         requires { ins (definitions_in self.now) (component_in self.now) (label_of label.now) < 2 ^ 32 }
         ensures { result ≡ ins (definitions_in self.now) (component_in self.now) (label_of label.now) }
     {
-        let unbound = Scope::empty(self.alloc);
-        let nobody = Env::empty(self.alloc);
-        let at = Around {
-            definitions: self.program.definitions.as_slice(),
-            env: &self.env,
-            interface: &self.interface,
-            unbound: &unbound,
-            nobody: &nobody,
-        };
-        inputs_of(&at, label, depth_of(self.program), &self.tree)
+        let at = Around::new(self.alloc, self.program, &self.env, &self.interface);
+        inputs_of(&at, label, at.depth(), &self.tree)
     }
 
     /// The label that the output at a place gives.
@@ -80,18 +64,10 @@ impl<'p> Live<'p> {
         requires among { place < outs (definitions_in self.now) (component_in self.now) }
         ensures { IfOk result (λ l. IsSaid (definitions_in self.now) (component_in self.now) place (label_of l)) }
     {
-        let unbound = Scope::empty(self.alloc);
-        let nobody = Env::empty(self.alloc);
-        let at = Around {
-            definitions: self.program.definitions.as_slice(),
-            env: &self.env,
-            interface: &self.interface,
-            unbound: &unbound,
-            nobody: &nobody,
-        };
-        let depth = depth_of(self.program);
-        let spoken = speak_at(self.alloc, &at, depth, &self.tree, place)?;
-        Ok(spoken.into_label())
+        let at = Around::new(self.alloc, self.program, &self.env, &self.interface);
+        let depth = at.depth();
+        let total = outputs_of(&at, depth, &self.tree);
+        label_at(&at, depth, &self.tree, place, total)
     }
 
     /// Makes the output at a place and gives its label. After `NoMemory` the component is as before.
@@ -102,19 +78,15 @@ impl<'p> Live<'p> {
         ensures err { OnErr result (component_in self.new ≡ component_in self.old) }
         ensures program { definitions_in self.new ≡ definitions_in self.old }
     {
-        let unbound = Scope::empty(self.alloc);
-        let nobody = Env::empty(self.alloc);
-        let at = Around {
-            definitions: self.program.definitions.as_slice(),
-            env: &self.env,
-            interface: &self.interface,
-            unbound: &unbound,
-            nobody: &nobody,
-        };
-        let depth = depth_of(self.program);
-        let Spoken { label, env, tree } = speak_at(self.alloc, &at, depth, &self.tree, place)?;
+        let Said { label, env } = spoken(
+            self.alloc,
+            self.program,
+            &self.env,
+            &self.interface,
+            &mut self.tree,
+            place,
+        )?;
         self.env = env;
-        self.tree = tree;
         Ok(label)
     }
 
@@ -126,20 +98,35 @@ impl<'p> Live<'p> {
         ensures err { OnErr result (component_in self.new ≡ component_in self.old) }
         ensures program { definitions_in self.new ≡ definitions_in self.old }
     {
-        let unbound = Scope::empty(self.alloc);
-        let nobody = Env::empty(self.alloc);
-        let at = Around {
-            definitions: self.program.definitions.as_slice(),
-            env: &self.env,
-            interface: &self.interface,
-            unbound: &unbound,
-            nobody: &nobody,
-        };
-        let depth = depth_of(self.program);
-        let Taken { env, tree } = hear_at(self.alloc, &at, label, depth, &self.tree, place)?;
+        let env = heard(
+            self.alloc,
+            self.program,
+            &self.env,
+            &self.interface,
+            label,
+            &mut self.tree,
+            place,
+        )?;
         self.env = env;
-        self.tree = tree;
         Ok(())
+    }
+
+    /// An equal component, with memory of its own.
+    pub fn copy(&self) -> Result<Live<'p>, NoMemory>
+        ensures component { IfOk result (λ l. component_in l ≡ component_in self.now) }
+        ensures program { IfOk result (λ l. definitions_in l ≡ definitions_in self.now) }
+    {
+        let env = copied(self.alloc, &self.env)?;
+        let interface = Interface::of(self.alloc, self.component.show.as_slice())?;
+        let tree = self.tree.copy(self.alloc)?;
+        Ok(Live {
+            alloc: self.alloc,
+            program: self.program,
+            component: self.component,
+            env,
+            interface,
+            tree,
+        })
     }
 
     /// The attributes with their values.
@@ -148,6 +135,51 @@ impl<'p> Live<'p> {
     {
         &self.env
     }
+}
+
+/// The output at a place is made: the tree moves, and what was said and the environment from then on
+/// are given. After `NoMemory` the tree is as before.
+fn spoken<'p>(
+    alloc: Global,
+    program: &'p Program,
+    env: &Env,
+    interface: &Interface,
+    tree: &mut Tree<'p>,
+    place: u32,
+) -> Result<Said, NoMemory>
+    requires fits { outs (definitions_of program.now.definitions) (parts env.now interface.now tree.old) < 2 ^ 32 }
+    requires among { place < outs (definitions_of program.now.definitions) (parts env.now interface.now tree.old) }
+    ensures ok { IfOk result
+        (λ s. Speaks (definitions_of program.now.definitions) (parts env.now interface.now tree.old) place (label_of s.label) (parts s.env interface.now tree.new)) }
+    ensures err { OnErr result (process_in tree.new ≡ process_in tree.old) }
+{
+    let at = Around::new(alloc, program, env, interface);
+    let depth = at.depth();
+    let total = outputs_of(&at, depth, tree);
+    speak_at(&at, depth, tree, place, total)
+}
+
+/// The input at a place takes the message: the tree moves, and the environment from then on is given.
+/// After `NoMemory` the tree is as before.
+fn heard<'p>(
+    alloc: Global,
+    program: &'p Program,
+    env: &Env,
+    interface: &Interface,
+    label: &Label,
+    tree: &mut Tree<'p>,
+    place: u32,
+) -> Result<Env, NoMemory>
+    requires fits { ins (definitions_of program.now.definitions) (parts env.now interface.now tree.old) (label_of label.now) < 2 ^ 32 }
+    requires among { place < ins (definitions_of program.now.definitions) (parts env.now interface.now tree.old) (label_of label.now) }
+    ensures ok { IfOk result
+        (λ e. Hears (definitions_of program.now.definitions) (parts env.now interface.now tree.old) (label_of label.now) (Some place) (parts e interface.now tree.new)) }
+    ensures err { OnErr result (process_in tree.new ≡ process_in tree.old) }
+{
+    let at = Around::new(alloc, program, env, interface);
+    let depth = at.depth();
+    let total = inputs_of(&at, label, depth, tree);
+    hear_at(&at, label, depth, tree, place, total)
 }
 
 /// A component of the program as it begins.
@@ -165,17 +197,11 @@ fn started<'p>(
     Ok(Live {
         alloc,
         program,
+        component,
         env,
         interface,
         tree,
     })
-}
-
-/// To which depth calls are unfolded: the number of definitions.
-fn depth_of(program: &Program) -> usize
-    ensures { result ≡ length (definitions_of program.now.definitions) }
-{
-    program.definitions.len()
 }
 
 /// The environment in which these attributes have been set one after another.

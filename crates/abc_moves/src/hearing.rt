@@ -1,4 +1,4 @@
-ghost use Rattle.std.specs.Prelude.{◌≡◌, ◌<◌, ◌^◌, [], IfOk, IsTrue, if◌then◌else◌};
+ghost use Rattle.std.specs.Prelude.{◌≡◌, ◌<◌, IfOk, IsTrue, if◌then◌else◌};
 ghost use Rattle.std.specs.List.{zip};
 ghost use Rattle.abc_pred.specs.Standing.{pred_of};
 ghost use Rattle.abc_term.specs.Processes.{Par};
@@ -10,11 +10,12 @@ ghost use Rattle.abc_moves.specs.Walks.{ins_at, TakesAt};
 ghost use Rattle.abc_moves.specs.Labels.{label_of};
 ghost use Rattle.abc_moves.specs.Trees.{process_in};
 
+use crate::around::Around;
 use crate::label::Label;
 use crate::scope::Scope;
 use crate::speaking::updated;
 use crate::tree::Tree;
-use crate::walk::{Around, callee, inputs};
+use crate::walk::{callee, inputs};
 use abc_pred::{Env, Name, Pred};
 use abc_term::{After, Process};
 use abc_value::{List, NoMemory};
@@ -31,7 +32,6 @@ pub struct Taken<'p> {
 
 /// The input that stands here takes the message.
 fn received<'p>(
-    alloc: Global,
     at: &Around<'_, 'p>,
     label: &Label,
     scope: &Scope,
@@ -50,8 +50,8 @@ fn received<'p>(
     ensures then { IfOk result
         (λ s. process_in s.tree ≡ put (zip xs.now label.now.values) (put (outside xs.now scope.now) (process_of after.now.then.value))) }
 {
-    let inside = scope.inside(alloc, xs.as_slice(), label.values.as_slice())?;
-    let env = updated(alloc, at.env, &inside, after.updates.as_slice())?;
+    let inside = scope.inside(at.alloc, xs.as_slice(), label.values.as_slice())?;
+    let env = updated(at.alloc, at.env, &inside, after.updates.as_slice())?;
     let tree = Tree::Leaf(&after.then, inside);
     Ok(Taken { env, tree })
 }
@@ -78,47 +78,48 @@ impl<'p> Taken<'p> {
     }
 }
 
-/// What the process becomes as its input at a place takes the message, calls unfolded to the depth.
+/// What the process becomes as its input at a place takes the message, one of this many that do,
+/// calls unfolded to the depth.
 pub fn hear<'p>(
-    alloc: Global,
     at: &Around<'_, 'p>,
     label: &Label,
     depth: usize,
     scope: &Scope,
     p: &'p Process,
     place: u32,
+    total: u32,
 ) -> Result<Taken<'p>, NoMemory>
-    requires unbound { at.now.unbound.now ≡ [] }
-    requires nobody { at.now.nobody.now ≡ [] }
-    requires fits { ins_at depth (definitions_of at.now.definitions.now) (label_of label.now) at.now.env.now at.now.interface.now (put scope.now (process_of p.now)) < 2 ^ 32 }
-    requires among { place < ins_at depth (definitions_of at.now.definitions.now) (label_of label.now) at.now.env.now at.now.interface.now (put scope.now (process_of p.now)) }
+    requires total { total ≡ ins_at depth (definitions_of at.now.definitions.now) (label_of label.now) at.now.env.now at.now.interface.now (put scope.now (process_of p.now)) }
+    requires among { place < total }
     ensures { IfOk result
         (λ s. TakesAt depth (definitions_of at.now.definitions.now) (label_of label.now) at.now.env.now at.now.interface.now
         (put scope.now (process_of p.now)) place s.env (process_in s.tree)) }
 {
     match p {
-        Process::Input(p, xs, after) => received(alloc, at, label, scope, p, xs, after, place),
-        Process::When(_, p) => hear(alloc, at, label, depth, scope, p, place),
+        Process::Input(p, xs, after) => received(at, label, scope, p, xs, after, place),
+        Process::When(_, p) => hear(at, label, depth, scope, p, place, total),
         Process::Choice(p, q) => {
-            let count = inputs(at, label, depth, scope, p);
+            let count = total - inputs(at, label, depth, scope, q);
             if place < count {
-                hear(alloc, at, label, depth, scope, p, place)
+                hear(at, label, depth, scope, p, place, count)
             } else {
-                hear(alloc, at, label, depth, scope, q, place - count)
+                hear(at, label, depth, scope, q, place - count, total - count)
             }
         }
         Process::Par(p, q) => {
-            let count = inputs(at, label, depth, scope, p);
+            let count = total - inputs(at, label, depth, scope, q);
             if place < count {
-                let stays = Tree::leaf(alloc, q, scope)?;
-                hear(alloc, at, label, depth, scope, p, place)?.left_of(alloc, stays)
+                let stays = Tree::leaf(at.alloc, q, scope)?;
+                hear(at, label, depth, scope, p, place, count)?.left_of(at.alloc, stays)
             } else {
-                let stays = Tree::leaf(alloc, p, scope)?;
-                hear(alloc, at, label, depth, scope, q, place - count)?.right_of(alloc, stays)
+                let stays = Tree::leaf(at.alloc, p, scope)?;
+                hear(at, label, depth, scope, q, place - count, total - count)?.right_of(
+                    at.alloc, stays,
+                )
             }
         }
         Process::Call(c) => match callee(at.definitions, depth, *c) {
-            Some(body) => hear(alloc, at, label, depth - 1, at.unbound, body, place),
+            Some(body) => hear(at, label, depth - 1, &at.unbound, body, place, total),
             None => unreachable!(),
         },
         Process::Nil => unreachable!(),

@@ -4,6 +4,7 @@
 //! part of the program with bindings beside it, so that a move copies no process.
 #![tactic(auto)]
 
+mod around;
 mod component;
 mod hearing;
 mod label;

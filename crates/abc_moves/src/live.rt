@@ -1,6 +1,8 @@
+ghost use Rattle.abc_moves.specs.Interfaces.{IsTheSetOf};
+
 use crate::tree::Tree;
 use abc_pred::{Env, Interface};
-use abc_term::Program;
+use abc_term::{Component, Program};
 use std::alloc::Global;
 
 /// A component as it runs: its environment, its interface, and its process as a tree of parallel leaves.
@@ -11,7 +13,10 @@ use std::alloc::Global;
 pub struct Live<'p> {
     pub(crate) alloc: Global,
     pub(crate) program: &'p Program,
+    /// The program's component that this began as.
+    pub(crate) component: &'p Component,
     pub(crate) env: Env,
     pub(crate) interface: Interface,
     pub(crate) tree: Tree<'p>,
+    ghost shows: { IsTheSetOf component.now.show interface },
 }

@@ -1,18 +1,19 @@
-ghost use Rattle.std.specs.Prelude.{◌≡◌, ◌<◌, ◌^◌, [], IfOk, map};
+ghost use Rattle.std.specs.Prelude.{◌≡◌, ◌<◌, [], IfOk, map};
 ghost use Rattle.abc_pred.specs.Standing.{pred_of};
 ghost use Rattle.abc_term.specs.Processes.{Par};
 ghost use Rattle.abc_term.specs.Standing.{process_of, definitions_of, exprs_of, updates_of};
 ghost use Rattle.abc_term.specs.Substitution.{put, put_pred, put_expr, put_updates};
 ghost use Rattle.abc_term.specs.Speaking.{updated, values_of, label_from};
-ghost use Rattle.abc_moves.specs.Walks.{outs_at, SaysAt};
+ghost use Rattle.abc_moves.specs.Walks.{outs_at, SaysAt, IsSaidAt};
 ghost use Rattle.abc_moves.specs.Labels.{label_of};
 ghost use Rattle.abc_moves.specs.Scopes.{bind_from, names_in};
 ghost use Rattle.abc_moves.specs.Trees.{process_in};
 
+use crate::around::Around;
 use crate::label::Label;
 use crate::scope::Scope;
 use crate::tree::Tree;
-use crate::walk::{Around, callee, outputs};
+use crate::walk::{callee, outputs};
 use abc_pred::{Env, Expr, Name, Pred};
 use abc_term::{After, Process, Update};
 use abc_value::{List, NoMemory, Value};
@@ -39,20 +40,14 @@ fn values(alloc: Global, env: &Env, scope: &Scope, es: &[Expr]) -> Result<List<V
 }
 
 /// The label of an output, from the environment before its updates.
-pub fn say(
-    alloc: Global,
-    at: &Around<'_, '_>,
-    scope: &Scope,
-    es: &[Expr],
-    pred: &Pred,
-) -> Result<Label, NoMemory>
+fn say(at: &Around<'_, '_>, scope: &Scope, es: &[Expr], pred: &Pred) -> Result<Label, NoMemory>
     ensures { IfOk result
         (λ l. label_of l
         ≡ label_from at.now.env.now at.now.interface.now (map (put_expr scope.now) (exprs_of es.now)) (put_pred scope.now (pred_of pred.now))) }
 {
-    let shown = at.env.shown(alloc, at.interface)?;
-    let pred = scope.closed(alloc, pred, at.env)?;
-    let values = values(alloc, at.env, scope, es)?;
+    let shown = at.env.shown(at.alloc, at.interface)?;
+    let pred = scope.closed(at.alloc, pred, at.env)?;
+    let values = values(at.alloc, at.env, scope, es)?;
     Ok(Label {
         shown,
         pred,
@@ -93,7 +88,6 @@ pub fn updated(alloc: Global, env: &Env, scope: &Scope, updates: &[Update]) -> R
 
 /// The output that stands here is made.
 fn said<'p>(
-    alloc: Global,
     at: &Around<'_, 'p>,
     scope: &Scope,
     es: &List<Expr>,
@@ -106,23 +100,13 @@ fn said<'p>(
     ensures env { IfOk result (λ s. s.env ≡ updated (put_updates scope.now (updates_of after.now.updates)) at.now.env.now) }
     ensures then { IfOk result (λ s. process_in s.tree ≡ put scope.now (process_of after.now.then.value)) }
 {
-    let label = say(alloc, at, scope, es.as_slice(), pred)?;
-    let env = updated(alloc, at.env, scope, after.updates.as_slice())?;
-    let tree = Tree::Leaf(&after.then, scope.copy(alloc)?);
+    let label = say(at, scope, es.as_slice(), pred)?;
+    let env = updated(at.alloc, at.env, scope, after.updates.as_slice())?;
+    let tree = Tree::Leaf(&after.then, scope.copy(at.alloc)?);
     Ok(Spoken { label, env, tree })
 }
 
 impl<'p> Spoken<'p> {
-    /// What was said.
-    pub fn into_label(self) -> Label
-        ensures { result ≡ self.entry.label }
-    {
-        let Spoken { label, env, tree } = self;
-        drop(env);
-        drop(tree);
-        label
-    }
-
     /// What moved stands on the left of what stays.
     pub fn left_of(self, alloc: Global, stays: Tree<'p>) -> Result<Spoken<'p>, NoMemory>
         ensures label { IfOk result (λ s. label_of s.label ≡ label_of self.entry.label) }
@@ -146,45 +130,89 @@ impl<'p> Spoken<'p> {
     }
 }
 
-/// The output of the process at a place, calls unfolded to the depth.
+/// The label of the process's output at a place, one of this many, calls unfolded to the depth.
+///
+/// Chains of `+` and `|` grow to the left, so it is what stands on the right that is counted.
+pub fn label(
+    at: &Around<'_, '_>,
+    depth: usize,
+    scope: &Scope,
+    p: &Process,
+    place: u32,
+    total: u32,
+) -> Result<Label, NoMemory>
+    requires total { total ≡ outs_at depth (definitions_of at.now.definitions.now) at.now.env.now (put scope.now (process_of p.now)) }
+    requires among { place < total }
+    ensures { IfOk result
+        (λ l. IsSaidAt depth (definitions_of at.now.definitions.now) at.now.env.now at.now.interface.now (put scope.now (process_of p.now)) place
+        (label_of l)) }
+{
+    match p {
+        Process::Output(es, pred, _) => say(at, scope, es.as_slice(), pred),
+        Process::When(_, p) => label(at, depth, scope, p, place, total),
+        Process::Choice(p, q) => {
+            let count = total - outputs(at, depth, scope, q);
+            if place < count {
+                label(at, depth, scope, p, place, count)
+            } else {
+                label(at, depth, scope, q, place - count, total - count)
+            }
+        }
+        Process::Par(p, q) => {
+            let count = total - outputs(at, depth, scope, q);
+            if place < count {
+                label(at, depth, scope, p, place, count)
+            } else {
+                label(at, depth, scope, q, place - count, total - count)
+            }
+        }
+        Process::Call(c) => match callee(at.definitions, depth, *c) {
+            Some(body) => label(at, depth - 1, &at.unbound, body, place, total),
+            None => unreachable!(),
+        },
+        Process::Nil => unreachable!(),
+        Process::Input(_, _, _) => unreachable!(),
+    }
+}
+
+/// The output of the process at a place, one of this many, calls unfolded to the depth.
 pub fn speak<'p>(
-    alloc: Global,
     at: &Around<'_, 'p>,
     depth: usize,
     scope: &Scope,
     p: &'p Process,
     place: u32,
+    total: u32,
 ) -> Result<Spoken<'p>, NoMemory>
-    requires unbound { at.now.unbound.now ≡ [] }
-    requires fits { outs_at depth (definitions_of at.now.definitions.now) at.now.env.now (put scope.now (process_of p.now)) < 2 ^ 32 }
-    requires among { place < outs_at depth (definitions_of at.now.definitions.now) at.now.env.now (put scope.now (process_of p.now)) }
+    requires total { total ≡ outs_at depth (definitions_of at.now.definitions.now) at.now.env.now (put scope.now (process_of p.now)) }
+    requires among { place < total }
     ensures { IfOk result
         (λ s. SaysAt depth (definitions_of at.now.definitions.now) at.now.env.now at.now.interface.now (put scope.now (process_of p.now)) place
         (label_of s.label) s.env (process_in s.tree)) }
 {
     match p {
-        Process::Output(es, pred, after) => said(alloc, at, scope, es, pred, after),
-        Process::When(_, p) => speak(alloc, at, depth, scope, p, place),
+        Process::Output(es, pred, after) => said(at, scope, es, pred, after),
+        Process::When(_, p) => speak(at, depth, scope, p, place, total),
         Process::Choice(p, q) => {
-            let count = outputs(at, depth, scope, p);
+            let count = total - outputs(at, depth, scope, q);
             if place < count {
-                speak(alloc, at, depth, scope, p, place)
+                speak(at, depth, scope, p, place, count)
             } else {
-                speak(alloc, at, depth, scope, q, place - count)
+                speak(at, depth, scope, q, place - count, total - count)
             }
         }
         Process::Par(p, q) => {
-            let count = outputs(at, depth, scope, p);
+            let count = total - outputs(at, depth, scope, q);
             if place < count {
-                let stays = Tree::leaf(alloc, q, scope)?;
-                speak(alloc, at, depth, scope, p, place)?.left_of(alloc, stays)
+                let stays = Tree::leaf(at.alloc, q, scope)?;
+                speak(at, depth, scope, p, place, count)?.left_of(at.alloc, stays)
             } else {
-                let stays = Tree::leaf(alloc, p, scope)?;
-                speak(alloc, at, depth, scope, q, place - count)?.right_of(alloc, stays)
+                let stays = Tree::leaf(at.alloc, p, scope)?;
+                speak(at, depth, scope, q, place - count, total - count)?.right_of(at.alloc, stays)
             }
         }
         Process::Call(c) => match callee(at.definitions, depth, *c) {
-            Some(body) => speak(alloc, at, depth - 1, at.unbound, body, place),
+            Some(body) => speak(at, depth - 1, &at.unbound, body, place, total),
             None => unreachable!(),
         },
         Process::Nil => unreachable!(),

@@ -6,12 +6,21 @@ use abc_value::NoMemory;
 use std::alloc::Global;
 
 /// The parallel leaves of a component, as its `|`s join them.
+#[cycle(tree)]
 #[derive(Drop)]
 pub enum Tree<'p> {
     /// A part of the program, in which the variables of the scope have its values.
     Leaf(&'p Process, Scope),
-    /// One of the two moves, and the other stays.
-    Par(Box<Tree<'p>>, Box<Tree<'p>>),
+    /// `|`
+    Par(Box<Sides<'p>>),
+}
+
+/// The two sides of `|`: one of the two moves, and the other stays.
+#[cycle(tree)]
+#[derive(Drop)]
+pub struct Sides<'p> {
+    pub left: Tree<'p>,
+    pub right: Tree<'p>,
 }
 
 impl<'p> Tree<'p> {
@@ -31,9 +40,8 @@ impl<'p> Tree<'p> {
     pub fn pair(alloc: Global, l: Tree<'p>, r: Tree<'p>) -> Result<Tree<'p>, NoMemory>
         ensures { IfOk result (λ t. process_in t ≡ Par (process_in l.entry) (process_in r.entry)) }
     {
-        let left = Box::new(alloc, l)?;
-        let right = Box::new(alloc, r)?;
-        Ok(Tree::Par(left, right))
+        let sides = Sides { left: l, right: r };
+        Ok(Tree::Par(Box::new(alloc, sides)?))
     }
 
     /// The same leaves, with bindings of their own.
@@ -42,9 +50,9 @@ impl<'p> Tree<'p> {
     {
         match self {
             Tree::Leaf(p, scope) => Tree::leaf(alloc, p, scope),
-            Tree::Par(l, r) => {
-                let l = l.copy(alloc)?;
-                let r = r.copy(alloc)?;
+            Tree::Par(sides) => {
+                let l = sides.left.copy(alloc)?;
+                let r = sides.right.copy(alloc)?;
                 Tree::pair(alloc, l, r)
             }
         }

@@ -9,23 +9,12 @@ ghost use Rattle.abc_moves.specs.Walks.{outs_at, ins_at};
 ghost use Rattle.abc_moves.specs.Labels.{label_of};
 ghost use Rattle.abc_term.specs.Hearing.{takes, is_meant};
 
+use crate::around::Around;
 use crate::label::Label;
 use crate::scope::Scope;
 use crate::wanted::Heard;
-use abc_pred::{Env, Interface, Name, Pred, Seen};
+use abc_pred::{Name, Pred, Seen};
 use abc_term::{Definition, Process};
-
-/// What a walk over a component's processes reads beside them.
-#[derive(Drop)]
-pub struct Around<'a, 'p> {
-    pub definitions: &'p [Definition],
-    pub env: &'a Env,
-    pub interface: &'a Interface,
-    /// The scope without bindings, in which the bodies of definitions stand.
-    pub unbound: &'a Scope,
-    /// The environment without attributes.
-    pub nobody: &'a Env,
-}
 
 /// The body of the first definition of this name.
 fn body(definitions: &[Definition], name: Name) -> Option<&Process>
@@ -51,8 +40,7 @@ pub fn callee(definitions: &[Definition], depth: usize, name: Name) -> Option<&P
 
 /// How many outputs of the process are enabled, calls unfolded to the depth.
 pub fn outputs(at: &Around<'_, '_>, depth: usize, scope: &Scope, p: &Process) -> u32
-    requires unbound { at.now.unbound.now ≡ [] }
-    requires fits { outs_at depth (definitions_of at.now.definitions.now) at.now.env.now (put scope.now (process_of p.now)) < 2 ^ 32 }
+    requires { outs_at depth (definitions_of at.now.definitions.now) at.now.env.now (put scope.now (process_of p.now)) < 2 ^ 32 }
     ensures { result ≡ outs_at depth (definitions_of at.now.definitions.now) at.now.env.now (put scope.now (process_of p.now)) }
 {
     match p {
@@ -69,7 +57,7 @@ pub fn outputs(at: &Around<'_, '_>, depth: usize, scope: &Scope, p: &Process) ->
         Process::Choice(p, q) => outputs(at, depth, scope, p) + outputs(at, depth, scope, q),
         Process::Par(p, q) => outputs(at, depth, scope, p) + outputs(at, depth, scope, q),
         Process::Call(c) => match callee(at.definitions, depth, *c) {
-            Some(body) => outputs(at, depth - 1, at.unbound, body),
+            Some(body) => outputs(at, depth - 1, &at.unbound, body),
             None => 0,
         },
     }
@@ -89,8 +77,6 @@ pub fn holds(at: &Around<'_, '_>, scope: &Scope, g: &Pred) -> bool
 /// Whether the input takes the message: it has as many values as the input has variables, and both
 /// sides' predicates hold.
 fn takes(at: &Around<'_, '_>, label: &Label, scope: &Scope, p: &Pred, xs: &[Name]) -> bool
-    requires unbound { at.now.unbound.now ≡ [] }
-    requires nobody { at.now.nobody.now ≡ [] }
     ensures { result
         ≡ takes (label_of label.now) at.now.env.now at.now.interface.now (put_pred (outside xs.now scope.now) (pred_of p.now)) xs.now }
 {
@@ -110,22 +96,18 @@ fn takes(at: &Around<'_, '_>, label: &Label, scope: &Scope, p: &Pred, xs: &[Name
 
 /// Whether the component's interface satisfies the sender's predicate.
 fn is_meant(at: &Around<'_, '_>, label: &Label) -> bool
-    requires unbound { at.now.unbound.now ≡ [] }
-    requires nobody { at.now.nobody.now ≡ [] }
     ensures { result ≡ is_meant (label_of label.now) at.now.env.now at.now.interface.now }
 {
     let seen = Seen {
         env: at.env,
         shown: Some(at.interface),
     };
-    at.unbound.satisfies(&label.pred, at.nobody, seen)
+    at.unbound.satisfies(&label.pred, &at.nobody, seen)
 }
 
 /// How many inputs of the process take the message, calls unfolded to the depth.
 pub fn inputs(at: &Around<'_, '_>, label: &Label, depth: usize, scope: &Scope, p: &Process) -> u32
-    requires unbound { at.now.unbound.now ≡ [] }
-    requires nobody { at.now.nobody.now ≡ [] }
-    requires fits { ins_at depth (definitions_of at.now.definitions.now) (label_of label.now) at.now.env.now at.now.interface.now (put scope.now (process_of p.now)) < 2 ^ 32 }
+    requires { ins_at depth (definitions_of at.now.definitions.now) (label_of label.now) at.now.env.now at.now.interface.now (put scope.now (process_of p.now)) < 2 ^ 32 }
     ensures { result ≡ ins_at depth (definitions_of at.now.definitions.now) (label_of label.now) at.now.env.now at.now.interface.now (put scope.now (process_of p.now)) }
 {
     match p {
@@ -152,7 +134,7 @@ pub fn inputs(at: &Around<'_, '_>, label: &Label, depth: usize, scope: &Scope, p
             inputs(at, label, depth, scope, p) + inputs(at, label, depth, scope, q)
         }
         Process::Call(c) => match callee(at.definitions, depth, *c) {
-            Some(body) => inputs(at, label, depth - 1, at.unbound, body),
+            Some(body) => inputs(at, label, depth - 1, &at.unbound, body),
             None => 0,
         },
     }

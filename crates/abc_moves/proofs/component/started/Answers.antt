@@ -4,6 +4,7 @@ use Rattle.abc_pred.specs.Maps.{ListsTheSame}
 use Rattle.abc_term.specs.Standing.{process_of, set_all}
 use Rattle.abc_term.specs.Substitution.{put}
 use Rattle.abc_term.proofs.Bindings.{putting_nothing}
+use Rattle.abc_moves.proofs.Interfaces.{set-of}
 use Rattle.abc_moves.proofs.component.started.Goals as goal
 
 pub returns-clause-component : goal.returns-clause-component
@@ -14,3 +15,8 @@ returns-clause-component c =
       interface = subst (λ (names : List Name). ListsTheSame c.in_ok-interface.interface names) c.as_slice-2.ensures c.in_ok-interface.ensures.names;
       process = ap (λ w. put w P) c.empty.ensures ∙ putting_nothing P;
     }
+
+pub invariant_of-result : goal.invariant_of-result
+invariant_of-result c = record {
+  shows = set-of c.args.component.now.show c.as_slice-2.result.now c.in_ok-interface.interface c.as_slice-2.ensures c.in_ok-interface.ensures.names c.in_ok-interface.ensures.set;
+}

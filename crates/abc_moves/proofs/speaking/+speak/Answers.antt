@@ -1,4 +1,4 @@
-use Rattle.std.proofs.Common.{◌≡◌, ◌-◌, ◌<◌, ◌^◌, ap, subst, ℕ, rules}
+use Rattle.std.proofs.Common.{◌≡◌, ◌∙◌, ◌-◌, ◌<◌, ap, rules}
 use Rattle.std.proofs.lemmas.Result.{IfOk-weaker}
 use Rattle.abc_term.specs.Standing.{process_of, definitions_of}
 use Rattle.abc_moves.specs.Labels.{label_of}
@@ -13,12 +13,12 @@ speak-requires-in-Some t c =
     let called = ap process_of c.in-Call.is in
     let falls : breadth_at (c.args.depth - 1) defs (process_of c.in-Some.body.now) < breadth_at c.args.depth defs (process_of c.args.p.now) =
     breadth_called c.args.depth defs c.in-Call.c (process_of c.args.p.now) (process_of c.in-Some.body.now) e.0 e.1 called in
-    let same = outs_called c.args.depth defs at.env.now c.in-Call.c c.args.scope.now at.unbound.now (process_of c.args.p.now) (process_of c.in-Some.body.now) e.0 e.1 c.requires.unbound called in
-    (search (rules, falls), (c.requires.unbound, (subst (λ (n : ℕ). n < 2 ^ 32) same c.requires.fits, subst (λ (n : ℕ). c.args.place < n) same c.requires.among)))
+    let same = outs_called c.args.depth defs at.env.now c.in-Call.c c.args.scope.now at.unbound (process_of c.args.p.now) (process_of c.in-Some.body.now) e.0 e.1 at.binds_nothing called in
+    (search (rules, falls), (c.requires.total ∙ same, c.requires.among))
 
 pub returns-in-Some : goal.returns-in-Some
 returns-in-Some t c =
     let at = c.args.at.now in let defs = definitions_of at.definitions.now in let e = c.in-Some.ensures in
     IfOk-weaker c.speak-in-Some.result _ _
-    (λ s h. says_called c.args.depth defs at.env.now at.interface.now c.in-Call.c c.args.scope.now at.unbound.now (process_of c.args.p.now) (process_of c.in-Some.body.now) c.args.place (label_of s.label) s.env (process_in s.tree) e.0 e.1 c.requires.unbound (ap process_of c.in-Call.is) h)
+    (λ s h. says_called c.args.depth defs at.env.now at.interface.now c.in-Call.c c.args.scope.now at.unbound (process_of c.args.p.now) (process_of c.in-Some.body.now) c.args.place (label_of s.label) s.env (process_in s.tree) e.0 e.1 at.binds_nothing (ap process_of c.in-Call.is) h)
     c.speak-in-Some.ensures

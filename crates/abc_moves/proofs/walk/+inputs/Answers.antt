@@ -11,11 +11,11 @@ inputs-requires-in-Some t c =
     let called = ap process_of c.in-Call.is in
     let falls : breadth_at (c.args.depth - 1) defs (process_of c.in-Some.body.now) < breadth_at c.args.depth defs (process_of c.args.p.now) =
     breadth_called c.args.depth defs c.in-Call.c (process_of c.args.p.now) (process_of c.in-Some.body.now) e.0 e.1 called in
-    let same = ins_called c.args.depth defs (label_of c.args.label.now) at.env.now at.interface.now c.in-Call.c c.args.scope.now at.unbound.now (process_of c.args.p.now) (process_of c.in-Some.body.now) e.0 e.1 c.requires.unbound called in
-    (search (rules, falls), (c.requires.unbound, (c.requires.nobody, subst (λ (n : ℕ). n < 2 ^ 32) same c.requires.fits)))
+    let same = ins_called c.args.depth defs (label_of c.args.label.now) at.env.now at.interface.now c.in-Call.c c.args.scope.now at.unbound (process_of c.args.p.now) (process_of c.in-Some.body.now) e.0 e.1 at.binds_nothing called in
+    (search (rules, falls), subst (λ (n : ℕ). n < 2 ^ 32) same c.requires)
 
 pub returns-in-Some : goal.returns-in-Some
 returns-in-Some t c =
     let at = c.args.at.now in let defs = definitions_of at.definitions.now in let e = c.in-Some.ensures in
     c.inputs-in-Some.ensures
-    ∙ sym (ins_called c.args.depth defs (label_of c.args.label.now) at.env.now at.interface.now c.in-Call.c c.args.scope.now at.unbound.now (process_of c.args.p.now) (process_of c.in-Some.body.now) e.0 e.1 c.requires.unbound (ap process_of c.in-Call.is))
+    ∙ sym (ins_called c.args.depth defs (label_of c.args.label.now) at.env.now at.interface.now c.in-Call.c c.args.scope.now at.unbound (process_of c.args.p.now) (process_of c.in-Some.body.now) e.0 e.1 at.binds_nothing (ap process_of c.in-Call.is))

@@ -9,5 +9,5 @@ pub returns : goal.returns
 returns c =
     let at = c.args.at.now in let other = shown at.env.now at.interface.now in
     c.satisfies.ensures
-    ∙ ap (λ p. sat p at.nobody.now other []) (pred_nothing at.unbound.now (pred_of c.args.label.now.pred) c.requires.unbound)
-    ∙ ap (λ own. sat (pred_of c.args.label.now.pred) own other []) c.requires.nobody
+    ∙ ap (λ p. sat p at.nobody other []) (pred_nothing at.unbound (pred_of c.args.label.now.pred) at.binds_nothing)
+    ∙ ap (λ own. sat (pred_of c.args.label.now.pred) own other []) at.has_nothing

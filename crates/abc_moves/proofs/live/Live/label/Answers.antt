@@ -1,15 +1,13 @@
-use Rattle.std.proofs.Common.{sym, subst, rules}
-use Rattle.abc_term.specs.Processes.{Component}
-use Rattle.abc_term.specs.Speaking.{Speaks}
-use Rattle.abc_moves.specs.declared.label.Label.{Label}
+use Rattle.std.proofs.lemmas.Result.{IfOk-weaker}
+use Rattle.abc_term.specs.Standing.{definitions_of}
 use Rattle.abc_moves.specs.Labels.{label_of}
-use Rattle.abc_moves.specs.Trees.{process_in}
 use Rattle.abc_moves.specs.Lives.{component_in, definitions_in}
+use Rattle.abc_moves.proofs.Said.{said_of}
 use Rattle.abc_moves.proofs.live.Live.label.Goals as goal
 
 pub returns : goal.returns
 returns c =
-    let s = c.in_ok-spoken.spoken in let now = component_in c.args.self.now in
-    let D : Component = record { env = s.env; interface = now.interface; process = process_in s.tree } in
-    let g : Speaks (definitions_in c.args.self.now) now c.args.place (label_of s.label) D = search rules in
-    (D, subst (λ (l : Label). Speaks (definitions_in c.args.self.now) now c.args.place (label_of l) D) (sym c.into_label.ensures) g)
+    let at = c.new-at.result in let is = c.new-at.ensures in
+    IfOk-weaker c.label_at.result _ _
+    (λ l s. said_of (definitions_in c.args.self.now) (definitions_of at.definitions.now) c.depth-depth.result (component_in c.args.self.now) at.env.now at.interface.now c.args.place (label_of l) is.definitions c.depth-depth.ensures is.env is.interface s)
+    c.label_at.ensures
