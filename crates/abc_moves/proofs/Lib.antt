@@ -4,3 +4,4 @@ pub mod Unfolded
 pub mod Reading
 pub mod Said
 pub mod Interfaces
+pub mod Sounding

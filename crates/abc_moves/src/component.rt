@@ -1,7 +1,10 @@
-ghost use Rattle.std.specs.Prelude.{◌≡◌, ◌<◌, ◌^◌, [], IfOk, OnErr, IsTrue, ◌↔◌, length, Some};
+ghost use Rattle.std.specs.Prelude.{◌≡◌, ◌<◌, ◌≤◌, ◌^◌, [], IfOk, OnErr, IsTrue, ◌↔◌, length, Some};
 ghost use Rattle.abc_term.specs.Standing.{definitions_of, component_of, set_all};
 ghost use Rattle.abc_term.specs.Speaking.{Speaks, outs};
 ghost use Rattle.abc_term.specs.Hearing.{Hears, ins};
+ghost use Rattle.abc_checks.specs.Facts.{IsChecked};
+ghost use Rattle.abc_sound.specs.Sound.{IsSound};
+ghost use Rattle.abc_sound.specs.declared.limits.TheConstants.{MOST_MOVES};
 ghost use Rattle.abc_moves.specs.Labels.{label_of};
 ghost use Rattle.abc_moves.specs.Lives.{component_in, definitions_in, BeginsAs, StartsAs, IsSaid};
 ghost use Rattle.abc_moves.specs.Trees.{parts, process_in};
@@ -21,7 +24,8 @@ use std::alloc::Global;
 impl<'p> Live<'p> {
     /// The component of this number as the program begins with it.
     pub fn start(alloc: Global, program: &'p Program, component: u32) -> Result<Live<'p>, NoMemory>
-        requires { component < length program.now.components }
+        requires checked { IsChecked program.now }
+        requires exists { component < length program.now.components }
         ensures component { IfOk result (λ l. StartsAs program.now component (component_in l)) }
         ensures program { IfOk result (λ l. definitions_in l ≡ definitions_of program.now.definitions) }
     {
@@ -34,8 +38,8 @@ impl<'p> Live<'p> {
 
     /// The number of enabled outputs. It takes no memory.
     pub fn outputs(&self) -> u32
-        requires { outs (definitions_in self.now) (component_in self.now) < 2 ^ 32 }
-        ensures { result ≡ outs (definitions_in self.now) (component_in self.now) }
+        ensures count { result ≡ outs (definitions_in self.now) (component_in self.now) }
+        ensures few { result ≤ MOST_MOVES }
     {
         let at = Around::new(self.alloc, self.program, &self.env, &self.interface);
         outputs_of(&at, at.depth(), &self.tree)
@@ -43,7 +47,6 @@ impl<'p> Live<'p> {
 
     /// Whether an output is enabled. It takes no memory.
     pub fn can_speak(&self) -> bool
-        requires { outs (definitions_in self.now) (component_in self.now) < 2 ^ 32 }
         ensures { IsTrue result ↔ (0 < outs (definitions_in self.now) (component_in self.now)) }
     {
         self.outputs() > 0
@@ -51,8 +54,8 @@ impl<'p> Live<'p> {
 
     /// The number of inputs that take the message. It takes no memory.
     pub fn inputs(&self, label: &Label) -> u32
-        requires { ins (definitions_in self.now) (component_in self.now) (label_of label.now) < 2 ^ 32 }
-        ensures { result ≡ ins (definitions_in self.now) (component_in self.now) (label_of label.now) }
+        ensures count { result ≡ ins (definitions_in self.now) (component_in self.now) (label_of label.now) }
+        ensures few { result ≤ MOST_MOVES }
     {
         let at = Around::new(self.alloc, self.program, &self.env, &self.interface);
         inputs_of(&at, label, at.depth(), &self.tree)
@@ -60,8 +63,7 @@ impl<'p> Live<'p> {
 
     /// The label that the output at a place gives.
     pub fn label(&self, place: u32) -> Result<Label, NoMemory>
-        requires fits { outs (definitions_in self.now) (component_in self.now) < 2 ^ 32 }
-        requires among { place < outs (definitions_in self.now) (component_in self.now) }
+        requires { place < outs (definitions_in self.now) (component_in self.now) }
         ensures { IfOk result (λ l. IsSaid (definitions_in self.now) (component_in self.now) place (label_of l)) }
     {
         let at = Around::new(self.alloc, self.program, &self.env, &self.interface);
@@ -72,8 +74,7 @@ impl<'p> Live<'p> {
 
     /// Makes the output at a place and gives its label. After `NoMemory` the component is as before.
     pub fn speak(&mut self, place: u32) -> Result<Label, NoMemory>
-        requires fits { outs (definitions_in self.old) (component_in self.old) < 2 ^ 32 }
-        requires among { place < outs (definitions_in self.old) (component_in self.old) }
+        requires { place < outs (definitions_in self.old) (component_in self.old) }
         ensures ok { IfOk result (λ l. Speaks (definitions_in self.old) (component_in self.old) place (label_of l) (component_in self.new)) }
         ensures err { OnErr result (component_in self.new ≡ component_in self.old) }
         ensures program { definitions_in self.new ≡ definitions_in self.old }
@@ -92,8 +93,7 @@ impl<'p> Live<'p> {
 
     /// Takes the message by the input at a place. After `NoMemory` the component is as before.
     pub fn hear(&mut self, label: &Label, place: u32) -> Result<(), NoMemory>
-        requires fits { ins (definitions_in self.old) (component_in self.old) (label_of label.now) < 2 ^ 32 }
-        requires among { place < ins (definitions_in self.old) (component_in self.old) (label_of label.now) }
+        requires { place < ins (definitions_in self.old) (component_in self.old) (label_of label.now) }
         ensures ok { IfOk result (λ _. Hears (definitions_in self.old) (component_in self.old) (label_of label.now) (Some place) (component_in self.new)) }
         ensures err { OnErr result (component_in self.new ≡ component_in self.old) }
         ensures program { definitions_in self.new ≡ definitions_in self.old }
@@ -188,6 +188,7 @@ fn started<'p>(
     program: &'p Program,
     component: &'p Component,
 ) -> Result<Live<'p>, NoMemory>
+    requires { IsSound program.now (component_of component.now) }
     ensures component { IfOk result (λ l. BeginsAs (component_of component.now) (component_in l)) }
     ensures program { IfOk result (λ l. definitions_in l ≡ definitions_of program.now.definitions) }
 {

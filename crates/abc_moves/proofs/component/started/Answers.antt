@@ -1,10 +1,13 @@
-use Rattle.std.proofs.Common.{◌∙◌, List, [], ap, subst}
+use Rattle.std.proofs.Common.{◌≡◌, ◌∙◌, List, [], ap, subst}
 use Rattle.abc_pred.specs.declared.names.Name.{Name}
 use Rattle.abc_pred.specs.Maps.{ListsTheSame}
-use Rattle.abc_term.specs.Standing.{process_of, set_all}
+use Rattle.abc_term.specs.Standing.{process_of, set_all, component_of}
 use Rattle.abc_term.specs.Substitution.{put}
 use Rattle.abc_term.proofs.Bindings.{putting_nothing}
+use Rattle.abc_moves.specs.Trees.{parts, process_in}
+use Rattle.abc_moves.specs.declared.tree.Tree as held
 use Rattle.abc_moves.proofs.Interfaces.{set-of}
+use Rattle.abc_moves.proofs.Sounding.{sound-process}
 use Rattle.abc_moves.proofs.component.started.Goals as goal
 
 pub returns-clause-component : goal.returns-clause-component
@@ -19,4 +22,9 @@ returns-clause-component c =
 pub invariant_of-result : goal.invariant_of-result
 invariant_of-result c = record {
   shows = set-of c.args.component.now.show c.as_slice-2.result.now c.in_ok-interface.interface c.as_slice-2.ensures c.in_ok-interface.ensures.names c.in_ok-interface.ensures.set;
+  sound =
+      let P = process_of c.args.component.now.run in
+      ∣ sound-process c.args.program.now (component_of c.args.component.now)
+      (record { env = c.in_ok-env.env; interface = c.in_ok-interface.interface; process = put c.empty.result P })
+      (ap (λ w. put w P) c.empty.ensures ∙ putting_nothing P) c.requires ∣₁;
 }

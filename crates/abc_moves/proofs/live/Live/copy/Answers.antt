@@ -1,11 +1,15 @@
 use Rattle.std.proofs.Common.{◌≡◌, refl}
-use Rattle.abc_moves.specs.Trees.{process_in}
+use Rattle.abc_moves.specs.Trees.{parts, process_in}
 use Rattle.abc_moves.proofs.Interfaces.{set-of, same-set}
+use Rattle.abc_moves.proofs.Sounding.{same_sound}
 use Rattle.abc_moves.proofs.live.Live.copy.Goals as goal
 
 pub invariant_of-result : goal.invariant_of-result
 invariant_of-result c = record {
   shows = set-of c.args.self.now.component.now.show c.as_slice.result.now c.in_ok-interface.interface c.as_slice.ensures c.in_ok-interface.ensures.names c.in_ok-interface.ensures.set;
+  sound =
+      let self = c.args.self.now in
+      same_sound self.program.now (parts self.env self.interface self.tree) (parts c.in_ok-env.env c.in_ok-interface.interface c.in_ok-tree.tree) c.in_ok-tree.ensures self.sound;
 }
 
 pub returns : goal.returns

@@ -1,0 +1,81 @@
+-- A live component is sound: what follows for its counts, and for what it becomes.
+use Rattle.std.proofs.Common.{◌≡◌, ℕ, ◌<◌, ◌≤◌, ◌^◌, IsTrue, not, List, [], length, Option, Some, get_or, slice_get, refl, ap, sym, subst, ◌∙◌, arith}
+use Rattle.std.proofs.lemmas.Option.{slice_get_read}
+use Rattle.abc_pred.specs.declared.names.Name.{Name}
+use Rattle.abc_pred.specs.Maps.{Entries}
+use Rattle.std.specs.Coded.{le_prop}
+use Rattle.std.proofs.Math.Logic.{∥∥₁_elim, ∥∥₁_map}
+use Rattle.abc_term.specs.declared.terms.Program.{Program}
+use Rattle.abc_term.specs.declared.terms.Component.{Component as Begun}
+use Rattle.abc_term.specs.Processes.{Process, Definitions, Component}
+use Rattle.abc_term.specs.Standing.{definitions_of, component_of}
+use Rattle.abc_term.specs.Speaking.{Label, Speaks, outs}
+use Rattle.abc_term.specs.Hearing.{Hears, ins}
+use Rattle.abc_checks.specs.Variables.{process_open}
+use Rattle.abc_checks.specs.Measures.{IsTooWide}
+use Rattle.abc_checks.specs.Facts.{IsChecked}
+use Rattle.abc_sound.specs.Built.{IsBuilt}
+use Rattle.abc_sound.specs.Sound.{IsSound}
+use Rattle.abc_moves.specs.Walks.{outs_at, ins_at}
+use Rattle.abc_moves.specs.Lives.{BeginsAs, StartsAs}
+use Rattle.abc_sound.proofs.Sounding.{programs_begin_sound, outputs_are_few, inputs_are_few, speaking_keeps_soundness, hearing_keeps_soundness}
+
+module _ (p : Program) (C : Component) (sound : ∥ IsSound p C ∥₁) where
+  pub few_outputs : outs (definitions_of p.definitions) C ≤ 65536
+  few_outputs = ∥∥₁_elim sound le_prop (outputs_are_few p C)
+
+  pub few_inputs : (l : Label) → ins (definitions_of p.definitions) C l ≤ 65536
+  few_inputs l = ∥∥₁_elim sound le_prop (λ s. inputs_are_few p C s l)
+
+  pub spoken_sound : (place : ℕ) (l : Label) (C' : Component) → Speaks (definitions_of p.definitions) C place l C' → ∥ IsSound p C' ∥₁
+  spoken_sound place l C' says = ∥∥₁_map sound (λ s. speaking_keeps_soundness p C place l C' s says)
+
+  pub heard_sound : (l : Label) (place : Option ℕ) (C' : Component) → Hears (definitions_of p.definitions) C l place C' → ∥ IsSound p C' ∥₁
+  heard_sound l place C' takes = ∥∥₁_map sound (λ s. hearing_keeps_soundness p C l place C' s takes)
+
+-- only the process matters
+pub sound-process : (p : Program) (C C' : Component) → C'.process ≡ C.process → IsSound p C → IsSound p C'
+sound-process p C C' e s = record {
+  checked = s.checked;
+  built = subst (λ (P : Process). IsBuilt p P) (sym e) s.built;
+  closed = subst (λ (P : Process). IsTrue (not (process_open [] P))) (sym e) s.closed;
+  narrow = subst (λ (P : Process). ¬ IsTooWide (definitions_of p.definitions) P) (sym e) s.narrow;
+}
+
+pub same_sound : (p : Program) (C C' : Component) → C'.process ≡ C.process → ∥ IsSound p C ∥₁ → ∥ IsSound p C' ∥₁
+same_sound p C C' e s = ∥∥₁_map s (sound-process p C C' e)
+
+-- ---- counts, as the code meets them: in what stands around the component
+module _ (p : Program) (C : Component) (sound : ∥ IsSound p C ∥₁) (ds : Definitions) (d : ℕ) (env : Entries) (at : ds ≡ definitions_of p.definitions) (deep : d ≡ length ds) (own : env ≡ C.env) where
+  outs_around : outs_at d ds env C.process ≡ outs (definitions_of p.definitions) C
+  outs_around =
+      (λ i. outs_at (deep i) ds (own i) C.process) ∙ ap (λ (D : Definitions). outs_at (length D) D C.env C.process) at
+
+  pub outputs_fit : outs_at d ds env C.process < 2 ^ 32
+  outputs_fit = let few = few_outputs p C sound in let same = outs_around in omega arith
+
+  pub outputs_few : (n : ℕ) → n ≡ outs_at d ds env C.process → n ≤ 65536
+  outputs_few n e = let few = few_outputs p C sound in let same = outs_around in omega arith
+
+  module _ (l : Label) (interface : List Name) (own_interface : interface ≡ C.interface) where
+    ins_around : ins_at d ds l env interface C.process ≡ ins (definitions_of p.definitions) C l
+    ins_around =
+        (λ i. ins_at (deep i) ds l (own i) (own_interface i) C.process)
+        ∙ ap (λ (D : Definitions). ins_at (length D) D l C.env C.interface C.process) at
+
+    pub inputs_fit : ins_at d ds l env interface C.process < 2 ^ 32
+    inputs_fit = let few = few_inputs p C sound l in let same = ins_around in omega arith
+
+    pub inputs_few : (n : ℕ) → n ≡ ins_at d ds l env interface C.process → n ≤ 65536
+    inputs_few n e = let few = few_inputs p C sound l in let same = ins_around in omega arith
+
+-- ---- the component that a program begins with, as it is found
+pub found : (components xs : List Begun) (i : ℕ) (C : Begun) → i < length components → xs ≡ components → C ≡ get_or xs i C → slice_get components i ≡ Some C
+found components xs i C h e at = slice_get_read components (length components) i C refl h (at ∙ ap (λ (l : List Begun). get_or l i C) e)
+
+pub begins_sound : (p : Program) (i : ℕ) (C : Begun) → IsChecked p → slice_get p.components i ≡ Some C → IsSound p (component_of C)
+begins_sound p i C h e = programs_begin_sound p h i C e
+
+pub starts_as : (p : Program) (i : ℕ) (C : Begun) (now : Component) → slice_get p.components i ≡ Some C → BeginsAs (component_of C) now → StartsAs p i now
+starts_as p i C now at begins D found_too =
+    let same : C ≡ D = cc in subst (λ (E : Begun). BeginsAs (component_of E) now) same begins
