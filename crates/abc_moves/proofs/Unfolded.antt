@@ -6,7 +6,8 @@ use Rattle.abc_term.specs.Processes.{Process, Call, Definitions, body_of}
 use Rattle.abc_term.specs.Substitution.{Values, put}
 use Rattle.abc_term.specs.Speaking.{Label, outs_of, call_outs, Says, CallSays}
 use Rattle.abc_term.proofs.Bindings.{putting_nothing}
-use Rattle.abc_moves.specs.Walks.{outs_at, breadth_at, breadth_of, call_breadth, SaysAt, ins_at, TakesAt}
+use Rattle.abc_moves.specs.Walks.{outs_at, parts_at, SaysAt, ins_at, TakesAt}
+use Rattle.abc_sound.specs.Walks.{parts_of, call_parts}
 use Rattle.abc_term.specs.Hearing.{ins_of, call_ins, Takes, CallTakes}
 
 less-one : (d : ℕ) → suc d - 1 ≡ d
@@ -17,18 +18,18 @@ outs_unfolded zero defs env c P h e = absurd (omega arith)
 outs_unfolded (suc d) defs env c P h e =
     (λ i. outs_of env (call_outs (sym (less-one d) i) defs env) (sym e i)) ∙ ap (outs_at (suc d - 1) defs env) (sym (putting_nothing P))
 
-pub breadth_unfolded : (d : ℕ) (defs : Definitions) (c : Name) (P : Process) → 0 < d → P ≡ body_of defs c → breadth_at (d - 1) defs P < 1 + call_breadth d defs c
-breadth_unfolded zero defs c P h e = absurd (omega arith)
-breadth_unfolded (suc d) defs c P h e =
-    let same : breadth_at (suc d - 1) defs P ≡ call_breadth (suc d) defs c = λ i. breadth_of (call_breadth (less-one d i) defs) (e i) in omega arith
+pub parts_unfolded : (d : ℕ) (defs : Definitions) (c : Name) (P : Process) → 0 < d → P ≡ body_of defs c → parts_at (d - 1) defs P < call_parts d defs c + 1
+parts_unfolded zero defs c P h e = absurd (omega arith)
+parts_unfolded (suc d) defs c P h e =
+    let same : parts_at (suc d - 1) defs P ≡ call_parts (suc d) defs c = λ i. parts_of (call_parts (less-one d i) defs) (e i) in omega arith
 
 -- as the code meets it
 pub outs_called : (d : ℕ) (defs : Definitions) (env : Entries) (c : Name) (bs u : Values) (P0 P : Process) → 0 < d → P ≡ body_of defs c → u ≡ [] → P0 ≡ Call c → outs_at d defs env (put bs P0) ≡ outs_at (d - 1) defs env (put u P)
 outs_called d defs env c bs u P0 P h e f g =
     ap (λ Q. outs_at d defs env (put bs Q)) g ∙ outs_unfolded d defs env c P h e ∙ ap (λ w. outs_at (d - 1) defs env (put w P)) (sym f)
 
-pub breadth_called : (d : ℕ) (defs : Definitions) (c : Name) (P0 P : Process) → 0 < d → P ≡ body_of defs c → P0 ≡ Call c → breadth_at (d - 1) defs P < breadth_at d defs P0
-breadth_called d defs c P0 P h e g = let b = breadth_unfolded d defs c P h e in let n = ap (breadth_at d defs) g in omega arith
+pub parts_called : (d : ℕ) (defs : Definitions) (c : Name) (P0 P : Process) → 0 < d → P ≡ body_of defs c → P0 ≡ Call c → parts_at (d - 1) defs P < parts_at d defs P0
+parts_called d defs c P0 P h e g = let b = parts_unfolded d defs c P h e in let n = ap (parts_at d defs) g in omega arith
 
 -- ---- what a call says
 says_unfolded : (d : ℕ) (defs : Definitions) (env : Entries) (interface : List Name) (c : Name) (P : Process) (k : ℕ) (l : Label) (e : Entries) (R : Process) → 0 < d → P ≡ body_of defs c → SaysAt (d - 1) defs env interface (put [] P) k l e R → CallSays d defs env interface c k l e R

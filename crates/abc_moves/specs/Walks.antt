@@ -1,8 +1,9 @@
 -- How far a walk over the unguarded parts of a process goes, and what it counts there.
-use Rattle.std.specs.Prelude.{ℕ, zero, suc, ◌+◌, List}
+use Rattle.std.specs.Prelude.{ℕ, List}
 use Rattle.abc_pred.specs.declared.names.Name.{Name}
 use Rattle.abc_pred.specs.Maps.{Entries}
-use Rattle.abc_term.specs.Processes.{Process, Nil, Output, Input, When, Choice, Par, Call, Definitions, body_of}
+use Rattle.abc_term.specs.Processes.{Process, Definitions}
+use Rattle.abc_sound.specs.Walks.{parts_of, call_parts}
 use Rattle.abc_term.specs.Hearing.{ins_of, call_ins, Takes, CallTakes}
 use Rattle.abc_term.specs.Speaking.{Label, outs_of, call_outs, Says, CallSays}
 
@@ -10,24 +11,9 @@ use Rattle.abc_term.specs.Speaking.{Label, outs_of, call_outs, Says, CallSays}
 abbrev pub outs_at : ℕ → Definitions → Entries → Process → ℕ
 outs_at depth defs env P = outs_of env (call_outs depth defs env) P
 
--- The breadth: the number of parts that no action guards. `of_call` has those of each call.
-module _ (of_call : Name → ℕ) where
-  abbrev pub breadth_of : Process → ℕ
-  breadth_of Nil = 1
-  breadth_of (Output es p us P) = 1
-  breadth_of (Input p xs us P) = 1
-  breadth_of (When g P) = 1 + breadth_of P
-  breadth_of (Choice P Q) = 1 + (breadth_of P + breadth_of Q)
-  breadth_of (Par P Q) = 1 + (breadth_of P + breadth_of Q)
-  breadth_of (Call c) = 1 + of_call c
-
--- A call has those of its definition's body, to a depth.
-abbrev pub call_breadth : ℕ → Definitions → Name → ℕ
-call_breadth zero defs c = 0
-call_breadth (suc depth) defs c = breadth_of (call_breadth depth defs) (body_of defs c)
-
-abbrev pub breadth_at : ℕ → Definitions → Process → ℕ
-breadth_at depth defs P = breadth_of (call_breadth depth defs) P
+-- The number of parts that a walk meets, calls unfolded to a depth.
+abbrev pub parts_at : ℕ → Definitions → Process → ℕ
+parts_at depth defs P = parts_of (call_parts depth defs) P
 
 -- ---- the moves of a process, calls unfolded to a depth
 abbrev pub SaysAt : ℕ → Definitions → Entries → List Name → Process → ℕ → Label → Entries → Process → Type 0

@@ -120,8 +120,8 @@ pub fn inputs(at: &Around<'_, '_>, label: &Label, depth: usize, scope: &Scope, p
                 0
             }
         }
-        Process::When(g, p) => {
-            if holds(at, scope, g) {
+        Process::When(guard, p) => {
+            if holds(at, scope, guard) {
                 inputs(at, label, depth, scope, p)
             } else {
                 0

@@ -1,6 +1,6 @@
 use Rattle.abc_term.specs.Standing.{process_of, definitions_of}
-use Rattle.abc_moves.specs.Walks.{breadth_at}
+use Rattle.abc_moves.specs.Walks.{parts_at}
 use Rattle.abc_moves.proofs.hearing.+hear.Given as goal
 
 abbrev pub decreases-hear : goal.decreases-hear
-decreases-hear l = breadth_at l.depth (definitions_of l.at.now.definitions.now) (process_of l.p.now)
+decreases-hear l = parts_at l.depth (definitions_of l.at.now.definitions.now) (process_of l.p.now)
