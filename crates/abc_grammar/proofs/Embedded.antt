@@ -1,5 +1,5 @@
 -- A machine for the tokens of a part within a machine for the whole.
-use Rattle.std.proofs.Common.{◌≡◌, List, [], ◌∷◌, ◌++◌, Option, Some, None, refl, ap, sym, ◌∙◌}
+use Rattle.std.proofs.Common.{◌≡◌, List, ◌∷◌, ◌++◌, Option, Some, None, ap, ◌∙◌}
 use Rattle.abc_grammar.specs.declared.lexemes.Lexeme.{Lexeme}
 use Rattle.abc_grammar.proofs.Runs.{run, run_on, run_next, run_inside}
 

@@ -1,5 +1,5 @@
 -- A machine that goes over the tokens of an expression.
-use Rattle.std.proofs.Common.{◌≡◌, List, [], ◌∷◌, ◌++◌, Option, Some, None, refl, ap, sym, ◌∙◌, append_assoc}
+use Rattle.std.proofs.Common.{◌≡◌, List, [], ◌∷◌, ◌++◌, Option, Some, None, refl, ap, sym, ◌∙◌}
 use Rattle.abc_pred.specs.Terms.{Operand, Expr}
 use Rattle.abc_pred.specs.Terms as e
 use Rattle.abc_grammar.specs.declared.lexemes.Lexeme.{Lexeme}

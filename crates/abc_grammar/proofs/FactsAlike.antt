@@ -1,11 +1,10 @@
 -- The facts of the checks are the same of two programs with the same plain terms, and the first fact is one.
 use Rattle.std.proofs.Common.{◌≡◌, ℕ, zero, suc, ◌<◌, ◌⊎◌, inl, inr, List, [], ◌∷◌, length, take, Option, Some, None, refl, sym, ap, ◌∙◌, subst}
 use Rattle.std.proofs.lemmas.List.{length-map}
-use Rattle.std.specs.Prelude.{map, slice_get, IsSomeAnd, IsTrue, ◌||◌, ◌==◌}
+use Rattle.std.specs.Prelude.{map, slice_get, IsSomeAnd, IsTrue, ◌||◌}
 use Rattle.std.specs.Option.{option_map}
 use Rattle.std.proofs.lemmas.Option.{slice_get-map}
 use Rattle.std.proofs.lemmas.Bool.{cases_order}
-use Rattle.abc_value.specs.declared.value.Value.{Value}
 use Rattle.abc_pred.specs.declared.names.Name.{Name}
 use Rattle.abc_pred.specs.Maps.{lists}
 use Rattle.abc_term.specs.Processes.{Process, Definitions}

@@ -1,6 +1,6 @@
 -- What tokens stand for.
-use Rattle.std.proofs.Common.{◌≡◌, ℕ, zero, suc, ◌+◌, ◌≤◌, ◌<◌, ◌⊎◌, inl, inr, Bool, true, false, cond, List, [], ◌∷◌, length, drop, take, Option, Some, None, refl, sym, ap, ◌∙◌, subst, arith, leb-true}
-use Rattle.std.specs.Prelude.{map, find, take_while, nat_le, ◌==◌, ◌||◌, ◌&&◌, is_some, if◌then◌else◌}
+use Rattle.std.proofs.Common.{◌≡◌, ℕ, zero, suc, ◌+◌, ◌≤◌, ◌<◌, ◌⊎◌, inl, inr, Bool, true, false, cond, List, [], ◌∷◌, length, Option, Some, None, refl, sym, ap, ◌∙◌, subst, arith, leb-true}
+use Rattle.std.specs.Prelude.{find, take_while, nat_le, ◌==◌, ◌||◌, ◌&&◌, is_some, if◌then◌else◌}
 use Rattle.std.specs.List.{list_any}
 use Rattle.std.specs.Str.{bytes_eq}
 use Rattle.std.specs.Option.{option_map}
@@ -8,19 +8,19 @@ use Rattle.std.proofs.lemmas.Bool.{eqb-true, cases_order}
 use Rattle.std.proofs.lemmas.Slice.Eq.{bytes_eq-Decides}
 use Rattle.abc_text.specs.declared.lexical.TokenKind.{TokenKind}
 use Rattle.abc_text.specs.declared.lexical.TokenKind.TheVariants.{Word, Variable, Number, Text, Symbol}
-use Rattle.abc_cause.specs.declared.Cause.TheVariants.{BadByte, BadText, LongText, LongName, WideNumber}
+use Rattle.abc_cause.specs.declared.Cause.TheVariants.{BadByte, LongText, LongName, WideNumber}
 use Rattle.abc_text.specs.declared.lexical.Before.{Before}
 use Rattle.abc_text.specs.declared.lexical.Next.{Next}
 use Rattle.abc_text.specs.declared.lexical.Next.TheVariants.{End, Good, Bad}
 use Rattle.abc_text.specs.declared.lexical.Token.{Token}
-use Rattle.abc_text.specs.Tokens.{is_letter, is_digit, is_symbol, word_len, word_token, variable_token, number_token, text_len, text_value, closed_text, text_token, colon_token, decimal, greatest, next, keywords, is_keyword}
-use Rattle.abc_text.specs.Meanings.{spelling, StandsIn, named, word_of}
+use Rattle.abc_text.specs.Tokens.{is_letter, is_digit, is_symbol, word_len, word_token, variable_token, number_token, text_len, text_value, closed_text, text_token, colon_token, decimal, greatest, next, is_keyword}
+use Rattle.abc_text.specs.Meanings.{spelling, StandsIn, word_of}
 use Rattle.abc_text.proofs.OfKind.{length-spelling}
 use Rattle.abc_grammar.specs.declared.lexemes.Mark.{Mark}
 use Rattle.abc_grammar.specs.declared.lexemes.Mark.TheVariants as m
 use Rattle.abc_grammar.specs.declared.lexemes.Keyword.{Keyword}
 use Rattle.abc_grammar.specs.declared.lexemes.Keyword.TheVariants as k
-use Rattle.abc_grammar.specs.Lexemes.{keyword_text, all_keywords, keyword_at, mark_text, all_marks, mark_at, name_in, word_lexeme, symbol_lexeme, lexeme_of, lexeme_by, name_of}
+use Rattle.abc_grammar.specs.Lexemes.{keyword_text, all_keywords, keyword_at, mark_text, all_marks, mark_at, name_in, word_lexeme, symbol_lexeme, lexeme_by, name_of}
 use Rattle.abc_grammar.specs.LexemeLaws.{LexemesAgree}
 
 -- ---- what is found in a table

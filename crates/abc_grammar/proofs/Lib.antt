@@ -12,3 +12,6 @@ pub mod LexemesMeant
 pub mod Worked
 pub mod FactsAlike
 pub mod OneText
+pub mod Counted
+pub mod Signs
+pub mod WorkedThrough

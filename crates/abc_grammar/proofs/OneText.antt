@@ -1,6 +1,6 @@
 -- A text is accepted or refused, in one way.
-use Rattle.std.proofs.Common.{◌≡◌, ℕ, zero, suc, ◌+◌, ◌-◌, ◌<◌, ◌≤◌, ◌⊎◌, inl, inr, List, [], ◌∷◌, ◌++◌, length, take, drop, Option, Some, None, refl, sym, ap, ◌∙◌, subst, arith}
-use Rattle.std.specs.Prelude.{slice_get, IsSomeAnd, IsTrue, Bool}
+use Rattle.std.proofs.Common.{◌≡◌, ℕ, ◌+◌, ◌-◌, ◌<◌, ◌≤◌, ◌⊎◌, inl, inr, List, [], length, take, drop, Option, Some, None, refl, sym, ap, ◌∙◌, subst, arith}
+use Rattle.std.specs.Prelude.{IsSomeAnd, IsTrue, Bool}
 use Rattle.std.proofs.lemmas.List.{take-append-drop}
 use Rattle.std.proofs.lemmas.Option.{slice_get_past}
 use Rattle.std.proofs.lemmas.Bool.{cases_lt}
@@ -10,20 +10,17 @@ use Rattle.abc_cause.specs.declared.Cause.TheVariants as cause
 use Rattle.abc_cause.specs.declared.CheckCause.{CheckCause}
 use Rattle.abc_text.specs.declared.lexical.Token.{Token}
 use Rattle.abc_text.specs.declared.lexical.Fault.{Fault}
-use Rattle.abc_text.specs.Tokens.{Reads}
 use Rattle.abc_text.proofs.Reading.{one_reading}
 use Rattle.abc_term.specs.declared.terms.Program.{Program}
-use Rattle.abc_checks.specs.declared.causes.Site.{Site}
-use Rattle.abc_checks.specs.Facts.{HasFact, IsChecked, IsFirstFact}
 use Rattle.abc_grammar.specs.declared.lexemes.Lexeme.{Lexeme}
 use Rattle.abc_grammar.specs.Lexemes.{lexemes_of}
 use Rattle.abc_grammar.specs.Preds.{IsPred}
 use Rattle.abc_grammar.specs.Plain.{PlainProgram, plain_program}
 use Rattle.abc_grammar.specs.Programs.{IsProgram}
-use Rattle.abc_grammar.specs.Limits.{At, Begins, IsTooLarge}
+use Rattle.abc_grammar.specs.Limits.{At, IsTooLarge}
 use Rattle.abc_grammar.specs.Sizes.{BeginsExtraToken}
-use Rattle.abc_grammar.specs.Refusals.{IsSomePred, IsSomeProgram, PassesLimit, IsWithin, GoesOn, Applies, IsFirstCause, IsFirstOfProgram, IsFirstOfPred, place_at}
-use Rattle.abc_grammar.specs.Fronts.{names_behind, front_end, IsScanned, IsFront, IsLongest, HasNoFront, BeginsWithPred, BeginsWithNoPred}
+use Rattle.abc_grammar.specs.Refusals.{IsSomePred, IsSomeProgram, PassesLimit, IsWithin, GoesOn, Applies, IsFirstOfProgram, IsFirstOfPred, place_at}
+use Rattle.abc_grammar.specs.Fronts.{names_behind, front_end, IsScanned, IsFront, IsLongest, BeginsWithPred, BeginsWithNoPred}
 use Rattle.abc_grammar.specs.Accepted.{IsTextOf, IsAccepted, IsNoText, IsUnchecked, IsRefused, site_place}
 use Rattle.abc_grammar.specs.TextLaws.{FrontsAreOne, AreAlike, TextsAreOne}
 use Rattle.abc_grammar.proofs.PredRuns.{one_pred}

@@ -1,5 +1,5 @@
 -- A machine that goes over the tokens of a process.
-use Rattle.std.proofs.Common.{◌≡◌, ℕ, zero, suc, List, [], ◌∷◌, ◌++◌, Option, Some, None, refl, ap, sym, ◌∙◌, append_assoc}
+use Rattle.std.proofs.Common.{◌≡◌, zero, List, [], ◌∷◌, ◌++◌, Option, Some, None, refl, ap, sym, ◌∙◌, append_assoc}
 use Rattle.abc_pred.specs.declared.names.Name.{Name}
 use Rattle.abc_pred.specs.Terms.{Expr, Pred}
 use Rattle.abc_term.specs.Processes.{Process, Update}
@@ -14,7 +14,7 @@ use Rattle.abc_grammar.specs.Exprs.{IsExpr}
 use Rattle.abc_grammar.specs.Preds.{IsPred}
 use Rattle.abc_grammar.specs.Processes.{IsUpdate, IsProcess, IsChoice, IsPrefix, IsAfter}
 use Rattle.abc_grammar.specs.Processes as g
-use Rattle.abc_grammar.proofs.Runs.{run, run_on, run_next, run_end}
+use Rattle.abc_grammar.proofs.Runs.{run, run_on}
 use Rattle.abc_grammar.proofs.Embedded.{Came, taken, through}
 use Rattle.abc_grammar.proofs.OperandRuns.{start}
 use Rattle.abc_grammar.proofs.Inner.{Stops}

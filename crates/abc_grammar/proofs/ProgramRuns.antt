@@ -1,5 +1,5 @@
 -- A machine that goes over the tokens of a program.
-use Rattle.std.proofs.Common.{◌≡◌, ℕ, zero, suc, List, [], ◌∷◌, ◌++◌, Option, Some, None, refl, ap, sym, ◌∙◌, append_assoc}
+use Rattle.std.proofs.Common.{◌≡◌, zero, suc, List, [], ◌∷◌, ◌++◌, Option, Some, None, refl, ap, sym, ◌∙◌, append_assoc}
 use Rattle.abc_value.specs.declared.value.Value.{Value}
 use Rattle.abc_pred.specs.declared.names.Name.{Name}
 use Rattle.abc_pred.specs.Terms.{Operand}
@@ -11,10 +11,8 @@ use Rattle.abc_grammar.specs.declared.lexemes.Mark.TheVariants as m
 use Rattle.abc_grammar.specs.declared.lexemes.Keyword.TheVariants as k
 use Rattle.abc_grammar.specs.Listed.{AreListed, MayBeListed, AreRepeated, IsName}
 use Rattle.abc_grammar.specs.Listed as listed
-use Rattle.abc_grammar.specs.Literals.{IsLiteral}
 use Rattle.abc_grammar.specs.Operands as operands
 use Rattle.abc_grammar.specs.Plain.{PlainComponent, PlainProgram}
-use Rattle.abc_grammar.specs.Processes.{IsProcess}
 use Rattle.abc_grammar.specs.Programs.{IsDefinition, IsInitial, IsComponent, IsProgram}
 use Rattle.abc_grammar.specs.Programs as g
 use Rattle.abc_grammar.proofs.Runs.{run, run_on}

@@ -1,6 +1,6 @@
 -- Machines that go over tokens one at a time. A machine that ends in one state after each reading of a list of
 -- tokens shows that there is one reading.
-use Rattle.std.proofs.Common.{◌≡◌, List, [], ◌∷◌, ◌++◌, Option, Some, None, refl, ap, sym, ◌∙◌}
+use Rattle.std.proofs.Common.{◌≡◌, List, [], ◌∷◌, ◌++◌, Option, Some, None, refl, ap, ◌∙◌}
 use Rattle.abc_grammar.specs.declared.lexemes.Lexeme.{Lexeme}
 
 -- what comes next, if anything

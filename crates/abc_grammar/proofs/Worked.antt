@@ -1,7 +1,11 @@
 -- The worked examples.
-use Rattle.std.proofs.Common.{◌≡◌, ◌≢◌, ℕ, false, zero, suc, ◌+◌, ◌<◌, ◌≤◌, ◌⊎◌, inl, inr, List, [], ◌∷◌, ◌++◌, length, take, Option, Some, None, refl, sym, ap, ◌∙◌, subst, arith, length-append}
-use Rattle.std.specs.Prelude.{IsSomeAnd, pos}
+use Rattle.std.proofs.Common.{◌≡◌, ℕ, false, zero, suc, ◌+◌, ◌<◌, ◌≤◌, inl, inr, List, [], ◌∷◌, ◌++◌, length, Option, None, refl, arith, length-append}
+use Rattle.std.specs.Prelude.{IsSomeAnd, replicate, pos}
+use Rattle.abc_value.specs.declared.scalar.Scalar.{Scalar}
 use Rattle.abc_value.specs.declared.scalar.Scalar.TheVariants as s
+use Rattle.abc_pred.specs.declared.names.Name.{Name}
+use Rattle.std.proofs.Math.Seq.{take-append_seam}
+use Rattle.std.proofs.lemmas.List.{length-replicate}
 use Rattle.abc_value.specs.declared.value.Value.{Value}
 use Rattle.abc_value.specs.declared.value.Value.TheVariants as v
 use Rattle.abc_pred.specs.Terms as t
@@ -14,21 +18,25 @@ use Rattle.abc_grammar.specs.declared.lexemes.Lexeme.TheVariants as l
 use Rattle.abc_grammar.specs.declared.lexemes.Mark.TheVariants as m
 use Rattle.abc_grammar.specs.declared.lexemes.Keyword.TheVariants as k
 use Rattle.abc_grammar.specs.Lexemes.{keyword_at, mark_at}
+use Rattle.abc_grammar.specs.Listed.{AreListed, IsVariable}
 use Rattle.abc_grammar.specs.Listed as listed
+use Rattle.abc_grammar.specs.Literals.{IsScalar}
 use Rattle.abc_grammar.specs.Literals as lit
-use Rattle.abc_grammar.specs.Operands.{IsOperand, IsProduct, IsAtom}
+use Rattle.abc_grammar.specs.Operands.{IsOperand, IsAtom}
 use Rattle.abc_grammar.specs.Operands as o
+use Rattle.abc_grammar.specs.Exprs.{IsExpr}
 use Rattle.abc_grammar.specs.Exprs as e
-use Rattle.abc_grammar.specs.Preds.{IsPred, IsTest}
+use Rattle.abc_grammar.specs.Preds.{IsTest}
 use Rattle.abc_grammar.specs.Preds as p
+use Rattle.abc_grammar.specs.Processes.{IsPrefix}
 use Rattle.abc_grammar.specs.Processes as q
 use Rattle.abc_grammar.specs.Programs as g
 use Rattle.abc_term.specs.Processes as P
-use Rattle.abc_grammar.specs.Limits.{Begins, opens, IsTooLarge}
+use Rattle.abc_grammar.specs.Limits.{At, Begins, opens, starts_item, IsTooLarge}
 use Rattle.abc_grammar.specs.Sizes.{BeginsExtraToken}
 use Rattle.abc_grammar.specs.Refusals.{order, Applies, PassesLimit, IsSomePred, IsSomeProgram}
 use Rattle.abc_grammar.specs.Fronts.{IsFront}
-use Rattle.abc_grammar.specs.Examples.{a, b, K, number, attr_a, name, InIn, Becomes007, MinusMinusOne, ToTheLeft, NotToTheRight, SumTimesSize, TwoSigns, PlusNothing, SizeOfUnion, LeastNumber, TooGreat, Precedence, RoundBrackets, ChoiceAndPar, OneIsNone, SmallProgram, BracketsOf101, BracketsOf100, SizeFive, FrontOfOne, NoFront, HeaderOfThree, Arrow}
+use Rattle.abc_grammar.specs.Examples.{a, b, K, number, attr_a, name, InIn, Becomes007, MinusMinusOne, ToTheLeft, NotToTheRight, SumTimesSize, TwoSigns, PlusNothing, SizeOfUnion, LeastNumber, TooGreat, Precedence, RoundBrackets, ChoiceAndPar, OneIsNone, SmallProgram, BracketsOf101, BracketsOf100, ones, run_a, variables, NinthExpr, NinthVariable, ExtraScalar, ExtraToken, SizeFive, FrontOfOne, NoFront, HeaderOfThree, Arrow}
 use Rattle.abc_grammar.proofs.OperandRuns.{one_operand, atom_run, Outside}
 use Rattle.abc_grammar.proofs.PredRuns.{pred_came}
 use Rattle.abc_grammar.proofs.ProcessRuns.{process_came}
@@ -115,6 +123,111 @@ brackets_of_101 = record { opener = refl; full = omega arith }
 
 pub brackets_of_100 : BracketsOf100
 brackets_of_100 h = let full = h.full in absurd (omega (arith, full))
+
+-- n + 1 values of the number 1
+one_scalars : ℕ → List Scalar
+one_scalars zero = s.Number (pos 1) ∷ []
+one_scalars (suc n) = one_scalars n ++ s.Number (pos 1) ∷ []
+
+length-one_scalars : (n : ℕ) → length (one_scalars n) ≡ n + 1
+unfolding one_scalars
+length-one_scalars zero = refl
+length-one_scalars (suc n) = let more = length-one_scalars n in omega (arith, length-append (one_scalars n) (s.Number (pos 1) ∷ []), more)
+
+scalars_listed : (n : ℕ) → AreListed IsScalar (ones n) (one_scalars n)
+unfolding one_scalars
+scalars_listed zero = listed.one (lit.number {n = 1} refl)
+scalars_listed (suc n) = listed.more (scalars_listed n) (lit.number {n = 1} refl)
+
+one_exprs : ℕ → List t.Expr
+one_exprs zero = t.Plain (number 1) ∷ []
+one_exprs (suc n) = one_exprs n ++ t.Plain (number 1) ∷ []
+
+exprs_listed : (n : ℕ) → AreListed IsExpr (ones n) (one_exprs n)
+unfolding one_exprs
+exprs_listed zero = listed.one (e.operand (operand one))
+exprs_listed (suc n) = listed.more (exprs_listed n) (e.operand (operand one))
+
+one_names : ℕ → List Name
+one_names zero = name 1 ∷ []
+one_names (suc n) = one_names n ++ name 1 ∷ []
+
+names_listed : (n : ℕ) → AreListed IsVariable (variables n) (one_names n)
+unfolding one_names
+names_listed zero = listed.one listed.variable
+names_listed (suc n) = listed.more (names_listed n) listed.variable
+
+-- a program that runs one prefix
+runs_a : {ts : List Lexeme} {A : P.Process} → IsPrefix ts A → IsSomeProgram (run_a ++ (ts ++ l.Mark m.Semicolon ∷ l.Mark m.CloseCurly ∷ []))
+runs_a {ts} h = (
+  _,
+  g.headed_1 {ts = []} {us = l.Keyword k.Comp ∷ a ∷ l.Mark m.OpenCurly ∷ l.Keyword k.Show ∷ l.Mark m.Semicolon ∷ l.Keyword k.Run ∷ (ts ++ l.Mark m.Semicolon ∷ l.Mark m.CloseCurly ∷ [])}
+      listed.none (listed.more {ts = []} listed.none (g.component {c = name 0} {ts = []} {us = []} {vs = ts} listed.none listed.none (q.choice (q.prefix h)))),
+)
+
+pub ninth_expr : NinthExpr
+unfolding one_exprs
+ninth_expr = record {
+  exists = omega arith;
+  before = run_a;
+  parts = ones 7;
+  exprs = one_exprs 7;
+  listed = exprs_listed 7;
+  full = refl;
+  stands = refl;
+  output = (
+    l.Mark m.OpenRound ∷ l.Keyword k.Tt ∷ l.Mark m.CloseRound ∷ l.Mark m.Dot ∷ l.Number 0 ∷ l.Mark m.Semicolon ∷ l.Mark m.CloseCurly ∷ [],
+    runs_a {ts = l.Mark m.OpenRound ∷ ones 7 ++ l.Mark m.CloseRound ∷ l.Mark m.At ∷ l.Mark m.OpenRound ∷ l.Keyword k.Tt ∷ l.Mark m.CloseRound ∷ l.Mark m.Dot ∷ l.Number 0 ∷ []}
+        (q.output {ts = ones 7} {us = l.Keyword k.Tt ∷ []} {vs = l.Number 0 ∷ []} (listed.some (exprs_listed 7)) (p.both (p.test p.always)) (q.after {ts = []} {us = l.Number 0 ∷ []} listed.none q.nil)),
+  );
+}
+
+pub ninth_variable : NinthVariable
+unfolding one_names
+ninth_variable = record {
+  exists = omega arith;
+  before = run_a ++ l.Mark m.Question ∷ l.Mark m.OpenRound ∷ l.Keyword k.Tt ∷ l.Mark m.CloseRound ∷ [];
+  parts = variables 7;
+  variables = one_names 7;
+  listed = names_listed 7;
+  full = refl;
+  stands = refl;
+  input = (
+    l.Number 0 ∷ l.Mark m.Semicolon ∷ l.Mark m.CloseCurly ∷ [],
+    runs_a {ts = l.Mark m.Question ∷ l.Mark m.OpenRound ∷ l.Keyword k.Tt ∷ l.Mark m.CloseRound ∷ l.Mark m.OpenRound ∷ variables 7 ++ l.Mark m.CloseRound ∷ l.Mark m.Dot ∷ l.Number 0 ∷ []}
+        (q.input {ts = l.Keyword k.Tt ∷ []} {us = variables 7} {vs = l.Number 0 ∷ []} (p.both (p.test p.always)) (listed.some (names_listed 7)) (q.after {ts = []} {us = l.Number 0 ∷ []} listed.none q.nil)),
+  );
+}
+
+pub extra_scalar : ExtraScalar
+extra_scalar before t = record {
+  exists = let long = length-append (before ++ l.Mark m.OpenCurly ∷ ones 255 ++ l.Mark m.Comma ∷ []) (t ∷ []) in omega (arith, long);
+  before = before;
+  parts = ones 255;
+  scalars = one_scalars 255;
+  listed = scalars_listed 255;
+  full = length-one_scalars 255;
+  stands = take-append_seam (before ++ l.Mark m.OpenCurly ∷ ones 255 ++ l.Mark m.Comma ∷ []) (t ∷ []);
+}
+
+-- none of many equal tokens starts a definition or a component
+no_start : (n i : ℕ) → ¬ At (replicate n (l.Number 0)) i starts_item
+no_start zero i h = absurd h
+no_start (suc n) zero h = cc
+no_start (suc n) (suc i) h = no_start n i h
+
+no_later_start : (n i : ℕ) → 0 < i → ¬ At (l.Keyword k.Def ∷ replicate n (l.Number 0)) i starts_item
+no_later_start n zero above h = absurd (omega arith)
+no_later_start n (suc i) above h = no_start n i h
+
+pub extra_token : ExtraToken
+extra_token = record {
+  exists = let long = length-replicate 2048 (l.Number 0) in omega (arith, long);
+  start = 0;
+  starts = refl;
+  last = λ i above below h. no_later_start 2048 i above h;
+  counted = refl;
+}
 
 pub size_five : SizeFive
 size_five = refl

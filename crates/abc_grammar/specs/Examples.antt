@@ -1,18 +1,16 @@
 -- Worked examples of the grammar, of fronts and of refusals.
-use Rattle.std.specs.Prelude.{◌≡◌, ℕ, List, [], ◌∷◌, ◌++◌, Option, Some, None, pos, negsuc, codes, replicate}
+use Rattle.std.specs.Prelude.{◌≡◌, ℕ, zero, suc, length, List, [], ◌∷◌, ◌++◌, Some, None, pos, negsuc, codes, replicate}
 use Rattle.abc_value.specs.declared.scalar.Scalar.{Scalar}
 use Rattle.abc_value.specs.declared.scalar.Scalar.TheVariants as s
-use Rattle.abc_value.specs.declared.value.Value.{Value}
 use Rattle.abc_value.specs.declared.value.Value.TheVariants as v
 use Rattle.abc_pred.specs.declared.names.Name.{Name}
 use Rattle.abc_pred.specs.Terms as t
 use Rattle.abc_term.specs.Processes.{Process}
 use Rattle.abc_term.specs.Processes as P
-use Rattle.abc_cause.specs.declared.Cause.TheVariants.{Syntax, TooDeep, BadByte}
+use Rattle.abc_cause.specs.declared.Cause.TheVariants.{Syntax, BadByte}
 use Rattle.abc_text.specs.declared.lexical.TokenKind.{TokenKind}
-use Rattle.abc_text.specs.declared.lexical.TokenKind.TheVariants.{Word, Variable, Number, Text, Symbol}
+use Rattle.abc_text.specs.declared.lexical.TokenKind.TheVariants.{Word, Variable, Number, Symbol}
 use Rattle.abc_text.specs.declared.lexical.Token.{Token}
-use Rattle.abc_text.specs.declared.lexical.Fault.{Fault}
 use Rattle.abc_text.specs.Meanings.{names_of}
 use Rattle.abc_grammar.specs.declared.lexemes.Lexeme.{Lexeme}
 use Rattle.abc_grammar.specs.declared.lexemes.Lexeme.TheVariants as l
@@ -21,14 +19,12 @@ use Rattle.abc_grammar.specs.declared.lexemes.Mark.TheVariants as m
 use Rattle.abc_grammar.specs.declared.lexemes.Keyword.TheVariants as k
 use Rattle.abc_grammar.specs.Lexemes.{lexemes_of}
 use Rattle.abc_grammar.specs.Operands.{IsOperand}
-use Rattle.abc_grammar.specs.Exprs.{IsExpr}
 use Rattle.abc_grammar.specs.Preds.{IsPred}
-use Rattle.abc_grammar.specs.Plain.{PlainComponent, PlainProgram}
 use Rattle.abc_grammar.specs.Processes.{IsProcess}
 use Rattle.abc_grammar.specs.Programs.{IsProgram}
-use Rattle.abc_grammar.specs.Limits.{IsTooDeep}
+use Rattle.abc_grammar.specs.Limits.{IsTooDeep, IsTooLarge, BeginsExtraExpr, BeginsExtraVariable, BeginsExtraScalar}
 use Rattle.abc_grammar.specs.Sizes.{size_of}
-use Rattle.abc_grammar.specs.Refusals.{IsFirstOfProgram, IsFirstOfPred}
+use Rattle.abc_grammar.specs.Refusals.{IsSomeProgram, IsFirstOfProgram, IsFirstOfPred}
 use Rattle.abc_grammar.specs.Fronts.{IsLongest}
 
 -- ---- how the examples are written
@@ -161,6 +157,40 @@ BracketsOf101 = IsTooDeep (replicate 101 (l.Mark m.OpenRound)) 100
 
 abbrev pub BracketsOf100 : Type 0
 BracketsOf100 = ¬ IsTooDeep (replicate 101 (l.Mark m.OpenRound)) 99
+
+-- n + 1 times the number 1, parted by commas
+abbrev pub ones : ℕ → List Lexeme
+ones zero = l.Number 1 ∷ []
+ones (suc n) = ones n ++ l.Mark m.Comma ∷ l.Number 1 ∷ []
+
+-- `abc 1; comp a { show; run ` and then an output: its ninth expression is too many, and its eighth is not
+abbrev pub run_a : List Lexeme
+run_a =
+    l.Keyword k.Abc ∷ l.Number 1 ∷ l.Mark m.Semicolon ∷ l.Keyword k.Comp ∷ a ∷ l.Mark m.OpenCurly ∷ l.Keyword k.Show ∷ l.Mark m.Semicolon ∷ l.Keyword k.Run ∷ []
+
+abbrev pub NinthExpr : Type 0
+NinthExpr = BeginsExtraExpr IsSomeProgram (run_a ++ l.Mark m.OpenRound ∷ ones 8) 26
+
+-- of an input the ninth variable
+abbrev pub variables : ℕ → List Lexeme
+variables zero = l.Variable (name 1) ∷ []
+variables (suc n) = variables n ++ l.Mark m.Comma ∷ l.Variable (name 1) ∷ []
+
+abbrev pub NinthVariable : Type 0
+NinthVariable =
+    BeginsExtraVariable IsSomeProgram
+    (run_a ++ l.Mark m.Question ∷ l.Mark m.OpenRound ∷ l.Keyword k.Tt ∷ l.Mark m.CloseRound ∷ l.Mark m.OpenRound ∷ variables 8) 30
+
+-- of a set literal the 257th scalar, whatever stands before it
+abbrev pub ExtraScalar : Type 0
+ExtraScalar =
+    (before : List Lexeme) (t : Lexeme) →
+    let front : List Lexeme = before ++ l.Mark m.OpenCurly ∷ ones 255 ++ l.Mark m.Comma ∷ [] in
+    BeginsExtraScalar (front ++ t ∷ []) (length front)
+
+-- of a definition the 2,049th token
+abbrev pub ExtraToken : Type 0
+ExtraToken = IsTooLarge (l.Keyword k.Def ∷ replicate 2048 (l.Number 0)) 2048
 
 -- `a - -1 in {1, -2}` has the size 5
 abbrev pub SizeFive : Type 0

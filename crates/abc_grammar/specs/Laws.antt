@@ -37,8 +37,9 @@ OneProgram = (ts : List Lexeme) (p q : PlainProgram) → IsProgram ts p → IsPr
 abbrev pub Balanced : List Lexeme → Type 0
 Balanced ts = (n : ℕ) → open_behind n ts ≡ n
 
-abbrev pub PredsBalance : Type 0
-PredsBalance = (ts : List Lexeme) (a : Pred) → IsPred ts a → Balanced ts
+pub record TermsBalance : Type 0 where
+  pub preds : (ts : List Lexeme) (a : Pred) → IsPred ts a → Balanced ts
+  pub programs : (ts : List Lexeme) (p : PlainProgram) → IsProgram ts p → Balanced ts
 
 -- ---- one refusal
 -- A text has at most one refusal as a program, and at most one as a predicate: one token and one cause.

@@ -1,5 +1,5 @@
 -- Laws of what tokens stand for.
-use Rattle.std.specs.Prelude.{◌≡◌, ℕ, Bool, true, List, map, Option, Some, is_some}
+use Rattle.std.specs.Prelude.{◌≡◌, ℕ, true, List, map, Some, is_some}
 use Rattle.std.specs.Option.{option_map}
 use Rattle.abc_text.specs.declared.lexical.TokenKind.TheVariants.{Symbol}
 use Rattle.abc_text.specs.declared.lexical.Token.{Token}

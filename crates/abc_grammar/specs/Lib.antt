@@ -15,4 +15,7 @@ pub mod Accepted
 pub mod Laws
 pub mod LexemeLaws
 pub mod TextLaws
+pub mod SizeLaws
+pub mod SignLaws
 pub mod Examples
+pub mod WorkedTexts

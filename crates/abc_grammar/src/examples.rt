@@ -1,6 +1,7 @@
 //! Worked examples: small texts that are, and are not, of the grammar, and how others are refused.
 
 ghost use Rattle.abc_grammar.specs.Examples as example;
+ghost use Rattle.abc_grammar.specs.WorkedTexts.{WorkedTexts};
 
 /// What tokens stand for: names by first meeting, a keyword behind `$`, a number with leading zeros.
 pub fn worked_lexemes()
@@ -34,9 +35,18 @@ pub fn what_is_no_term()
 pub fn worked_refusals()
     ensures brackets_of_101 { example.BracketsOf101 }
     ensures brackets_of_100 { example.BracketsOf100 }
+    ensures ninth_expr { example.NinthExpr }
+    ensures ninth_variable { example.NinthVariable }
+    ensures extra_scalar { example.ExtraScalar }
+    ensures extra_token { example.ExtraToken }
     ensures size_five { example.SizeFive }
     ensures front_of_one { example.FrontOfOne }
     ensures no_front { example.NoFront }
     ensures header_of_three { example.HeaderOfThree }
     ensures arrow { example.Arrow }
+{}
+
+/// Whole texts from their bytes: one that is accepted, and two that are refused.
+pub fn worked_texts()
+    ensures { WorkedTexts }
 {}

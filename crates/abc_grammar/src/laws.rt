@@ -1,7 +1,9 @@
 //! Laws of the definitions, each the contract of a function that does nothing.
-ghost use Rattle.abc_grammar.specs.Laws.{OneOperand, OneExpr, OnePred, OneProcess, OneProgram, PredsBalance, RefusalsAreOne};
+ghost use Rattle.abc_grammar.specs.Laws.{OneOperand, OneExpr, OnePred, OneProcess, OneProgram, TermsBalance, RefusalsAreOne};
 ghost use Rattle.abc_grammar.specs.LexemeLaws.{LexemesAgree};
 ghost use Rattle.abc_grammar.specs.TextLaws.{FrontsAreOne, TextsAreOne};
+ghost use Rattle.abc_grammar.specs.SizeLaws.{SizesCountLiterals};
+ghost use Rattle.abc_grammar.specs.SignLaws.{SignsAreOfLiterals};
 
 /// A list of tokens is at most one operand, one expression, one predicate, one process and one program.
 pub fn one_term()
@@ -12,9 +14,9 @@ pub fn one_term()
     ensures programs { OneProgram }
 {}
 
-/// The tokens of a predicate close each bracket that they open, and no other.
-pub fn preds_balance()
-    ensures { PredsBalance }
+/// The tokens of a predicate and of a program close each bracket that they open, and no other.
+pub fn terms_balance()
+    ensures { TermsBalance }
 {}
 
 /// A text has at most one refusal, one token and one cause.
@@ -36,4 +38,14 @@ pub fn fronts_are_one()
 /// A text is accepted as one program, or refused at one place for one cause, and not both.
 pub fn texts_are_one()
     ensures { TextsAreOne }
+{}
+
+/// The signs, by the token before each `-`, are the `-` of signed literals, and every other `-` is none.
+pub fn signs_are_of_literals()
+    ensures { SignsAreOfLiterals }
+{}
+
+/// The size of a predicate is the number of its tokens, each literal counting as one.
+pub fn sizes_count_literals()
+    ensures { SizesCountLiterals }
 {}
