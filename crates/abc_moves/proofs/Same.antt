@@ -1,10 +1,10 @@
 -- Bindings are seen by their look-ups alone, and values put for variables by what each variable becomes.
-use Rattle.std.proofs.Common.{◌≡◌, not, ◌&&◌, ◌||◌, Bool, true, false, if◌then◌else◌, List, [], ◌∷◌, ◌++◌, map, refl, ap, sym, ◌∙◌}
+use Rattle.std.proofs.Common.{◌≡◌, not, ◌&&◌, ◌||◌, Bool, true, false, if◌then◌else◌, List, [], ◌∷◌, map, refl, ap, sym, ◌∙◌}
 use Rattle.abc_value.specs.Values.{number_value, sum_of, rest_of, product_of, size_of, free_of, set_value, union_value, without_value, is_same, is_less, is_member}
 use Rattle.abc_pred.specs.declared.names.Name.{Name}
 use Rattle.abc_pred.specs.Terms.{Operand, Literal, Attr, This, Var, Add, Sub, Mul, Size, Free, Expr, Plain, SetOf, Union, Without, Pred, True, False, Same, Less, Member, Not, And, Or}
 use Rattle.abc_pred.specs.Maps.{Entries, ShowsTheSame, lists, same_name}
-use Rattle.abc_pred.specs.Meaning.{val, expr_in, expr_val, sat, close, close_operand}
+use Rattle.abc_pred.specs.Meaning.{val, expr_in, sat, close, close_operand}
 use Rattle.abc_pred.proofs.Shown.{same_name-eq}
 use Rattle.abc_term.specs.Processes.{Process, Nil, Output, Input, When, Choice, Par, Call, Update}
 use Rattle.abc_term.specs.Substitution.{Values, put_variable, put_operand, put_expr, put_pred, put_updates, put, outside}

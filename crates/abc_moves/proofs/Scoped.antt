@@ -1,5 +1,5 @@
 -- What bindings beside a process stand for.
-use Rattle.std.proofs.Common.{◌≡◌, ◌≢◌, ℕ, Bool, true, false, ◌||◌, if◌then◌else◌, List, [], ◌∷◌, ◌++◌, map, length, refl, ap, sym, subst, ◌∙◌, arith}
+use Rattle.std.proofs.Common.{◌≡◌, Bool, true, false, ◌||◌, if◌then◌else◌, List, [], ◌∷◌, ◌++◌, length, refl, ap, sym, subst, ◌∙◌, arith}
 use Rattle.std.specs.List.{zip}
 use Rattle.std.proofs.lemmas.Bool.{true≢false, eq-eqb}
 use Rattle.abc_value.specs.declared.value.Value.{Value}
@@ -10,8 +10,7 @@ use Rattle.abc_pred.specs.Maps.{Entries, IsMap, look_up, lists, set_to, same_nam
 use Rattle.abc_pred.specs.Meaning.{sat, close, expr_val}
 use Rattle.abc_pred.proofs.Shown.{same_name-eq}
 use Rattle.abc_pred.proofs.Looks.{setting_sets, setting_keeps_the_others, setting_gives_a_map, maps_are_what_they_show}
-use Rattle.abc_term.specs.Processes.{Process}
-use Rattle.abc_term.specs.Substitution.{Values, put_variable, put_pred, put_expr, put, outside}
+use Rattle.abc_term.specs.Substitution.{Values, put_variable, put_pred, put_expr, outside}
 use Rattle.abc_term.proofs.Bindings.{sat-put, expr-bound, close-put, putting_twice}
 use Rattle.abc_moves.specs.Scopes.{values_in, names_in, HasNoOthers, IsScope, bind_from, bind_all, PutsInside}
 use Rattle.abc_moves.proofs.Same.{sat-vars, close-vars, expr_in-vars, put-same, variable-outside}

@@ -1,14 +1,14 @@
 -- A call at a depth is its definition's body at a depth less.
-use Rattle.std.proofs.Common.{◌≡◌, ℕ, zero, suc, ◌+◌, ◌-◌, ◌<◌, List, [], refl, ap, sym, subst, ◌∙◌, arith}
+use Rattle.std.proofs.Common.{◌≡◌, ℕ, zero, suc, ◌+◌, ◌-◌, ◌<◌, List, [], ap, sym, subst, ◌∙◌, arith}
 use Rattle.abc_pred.specs.declared.names.Name.{Name}
 use Rattle.abc_pred.specs.Maps.{Entries}
 use Rattle.abc_term.specs.Processes.{Process, Call, Definitions, body_of}
 use Rattle.abc_term.specs.Substitution.{Values, put}
-use Rattle.abc_term.specs.Speaking.{Label, outs_of, call_outs, Says, CallSays}
+use Rattle.abc_term.specs.Speaking.{Label, outs_of, call_outs, CallSays}
 use Rattle.abc_term.proofs.Bindings.{putting_nothing}
 use Rattle.abc_moves.specs.Walks.{outs_at, parts_at, SaysAt, ins_at, TakesAt}
 use Rattle.abc_sound.specs.Walks.{parts_of, call_parts}
-use Rattle.abc_term.specs.Hearing.{ins_of, call_ins, Takes, CallTakes}
+use Rattle.abc_term.specs.Hearing.{ins_of, call_ins, CallTakes}
 
 less-one : (d : ℕ) → suc d - 1 ≡ d
 less-one d = omega arith

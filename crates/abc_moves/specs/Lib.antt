@@ -5,4 +5,5 @@ pub mod Trees
 pub mod Labels
 pub mod Hears
 pub mod Interfaces
+pub mod Sounds
 pub mod Lives

@@ -13,7 +13,7 @@ abbrev pub component_in : Live → term.Component
 component_in l = parts l.env l.interface l.tree
 
 abbrev pub definitions_in : Live → term.Definitions
-definitions_in l = definitions_of l.program.now.definitions
+definitions_in l = definitions_of l.definitions.now
 
 -- The component of this number as the program begins with it. Of its interface it matters only what it lists.
 pub record BeginsAs (first now : term.Component) : Type 0 where

@@ -3,7 +3,7 @@ ghost use Rattle.abc_term.specs.Standing.{definitions_of};
 
 use crate::scope::Scope;
 use abc_pred::{Env, Interface};
-use abc_term::{Definition, Program};
+use abc_term::Definition;
 use std::alloc::Global;
 
 /// What a walk over a component's processes reads beside them.
@@ -25,15 +25,14 @@ impl<'a, 'p> Around<'a, 'p> {
     /// What stands beside a component with this environment and interface. It takes no memory.
     pub fn new(
         alloc: Global,
-        program: &'p Program,
+        definitions: &'p [Definition],
         env: &'a Env,
         interface: &'a Interface,
     ) -> Around<'a, 'p>
-        ensures definitions { definitions_of result.definitions.now ≡ definitions_of program.now.definitions }
+        ensures definitions { definitions_of result.definitions.now ≡ definitions_of definitions.now }
         ensures env { result.env.now ≡ env.now }
         ensures interface { result.interface.now ≡ interface.now }
     {
-        let definitions = program.definitions.as_slice();
         Around {
             alloc,
             definitions,

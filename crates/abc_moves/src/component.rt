@@ -17,7 +17,7 @@ use crate::scope::Scope;
 use crate::speaking::copied;
 use crate::tree::Tree;
 use abc_pred::{Env, Interface, Name};
-use abc_term::{Component, Program};
+use abc_term::{Component, Definition, Program};
 use abc_value::{NoMemory, Value};
 use std::alloc::Global;
 
@@ -41,7 +41,7 @@ impl<'p> Live<'p> {
         ensures count { result ≡ outs (definitions_in self.now) (component_in self.now) }
         ensures few { result ≤ MOST_MOVES }
     {
-        let at = Around::new(self.alloc, self.program, &self.env, &self.interface);
+        let at = Around::new(self.alloc, self.definitions, &self.env, &self.interface);
         outputs_of(&at, at.depth(), &self.tree)
     }
 
@@ -57,7 +57,7 @@ impl<'p> Live<'p> {
         ensures count { result ≡ ins (definitions_in self.now) (component_in self.now) (label_of label.now) }
         ensures few { result ≤ MOST_MOVES }
     {
-        let at = Around::new(self.alloc, self.program, &self.env, &self.interface);
+        let at = Around::new(self.alloc, self.definitions, &self.env, &self.interface);
         inputs_of(&at, label, at.depth(), &self.tree)
     }
 
@@ -66,7 +66,7 @@ impl<'p> Live<'p> {
         requires { place < outs (definitions_in self.now) (component_in self.now) }
         ensures { IfOk result (λ l. IsSaid (definitions_in self.now) (component_in self.now) place (label_of l)) }
     {
-        let at = Around::new(self.alloc, self.program, &self.env, &self.interface);
+        let at = Around::new(self.alloc, self.definitions, &self.env, &self.interface);
         let depth = at.depth();
         let total = outputs_of(&at, depth, &self.tree);
         label_at(&at, depth, &self.tree, place, total)
@@ -81,7 +81,7 @@ impl<'p> Live<'p> {
     {
         let Said { label, env } = spoken(
             self.alloc,
-            self.program,
+            self.definitions,
             &self.env,
             &self.interface,
             &mut self.tree,
@@ -100,7 +100,7 @@ impl<'p> Live<'p> {
     {
         let env = heard(
             self.alloc,
-            self.program,
+            self.definitions,
             &self.env,
             &self.interface,
             label,
@@ -117,15 +117,15 @@ impl<'p> Live<'p> {
         ensures program { IfOk result (λ l. definitions_in l ≡ definitions_in self.now) }
     {
         let env = copied(self.alloc, &self.env)?;
-        let interface = Interface::of(self.alloc, self.component.show.as_slice())?;
+        let interface = Interface::of(self.alloc, self.show)?;
         let tree = self.tree.copy(self.alloc)?;
         Ok(Live {
-            alloc: self.alloc,
-            program: self.program,
-            component: self.component,
+            definitions: self.definitions,
+            show: self.show,
+            tree,
             env,
             interface,
-            tree,
+            alloc: self.alloc,
         })
     }
 
@@ -141,19 +141,19 @@ impl<'p> Live<'p> {
 /// are given. After `NoMemory` the tree is as before.
 fn spoken<'p>(
     alloc: Global,
-    program: &'p Program,
+    definitions: &'p [Definition],
     env: &Env,
     interface: &Interface,
     tree: &mut Tree<'p>,
     place: u32,
 ) -> Result<Said, NoMemory>
-    requires fits { outs (definitions_of program.now.definitions) (parts env.now interface.now tree.old) < 2 ^ 32 }
-    requires among { place < outs (definitions_of program.now.definitions) (parts env.now interface.now tree.old) }
+    requires fits { outs (definitions_of definitions.now) (parts env.now interface.now tree.old) < 2 ^ 32 }
+    requires among { place < outs (definitions_of definitions.now) (parts env.now interface.now tree.old) }
     ensures ok { IfOk result
-        (λ s. Speaks (definitions_of program.now.definitions) (parts env.now interface.now tree.old) place (label_of s.label) (parts s.env interface.now tree.new)) }
+        (λ s. Speaks (definitions_of definitions.now) (parts env.now interface.now tree.old) place (label_of s.label) (parts s.env interface.now tree.new)) }
     ensures err { OnErr result (process_in tree.new ≡ process_in tree.old) }
 {
-    let at = Around::new(alloc, program, env, interface);
+    let at = Around::new(alloc, definitions, env, interface);
     let depth = at.depth();
     let total = outputs_of(&at, depth, tree);
     speak_at(&at, depth, tree, place, total)
@@ -163,20 +163,20 @@ fn spoken<'p>(
 /// After `NoMemory` the tree is as before.
 fn heard<'p>(
     alloc: Global,
-    program: &'p Program,
+    definitions: &'p [Definition],
     env: &Env,
     interface: &Interface,
     label: &Label,
     tree: &mut Tree<'p>,
     place: u32,
 ) -> Result<Env, NoMemory>
-    requires fits { ins (definitions_of program.now.definitions) (parts env.now interface.now tree.old) (label_of label.now) < 2 ^ 32 }
-    requires among { place < ins (definitions_of program.now.definitions) (parts env.now interface.now tree.old) (label_of label.now) }
+    requires fits { ins (definitions_of definitions.now) (parts env.now interface.now tree.old) (label_of label.now) < 2 ^ 32 }
+    requires among { place < ins (definitions_of definitions.now) (parts env.now interface.now tree.old) (label_of label.now) }
     ensures ok { IfOk result
-        (λ e. Hears (definitions_of program.now.definitions) (parts env.now interface.now tree.old) (label_of label.now) (Some place) (parts e interface.now tree.new)) }
+        (λ e. Hears (definitions_of definitions.now) (parts env.now interface.now tree.old) (label_of label.now) (Some place) (parts e interface.now tree.new)) }
     ensures err { OnErr result (process_in tree.new ≡ process_in tree.old) }
 {
-    let at = Around::new(alloc, program, env, interface);
+    let at = Around::new(alloc, definitions, env, interface);
     let depth = at.depth();
     let total = inputs_of(&at, label, depth, tree);
     hear_at(&at, label, depth, tree, place, total)
@@ -193,15 +193,17 @@ fn started<'p>(
     ensures program { IfOk result (λ l. definitions_in l ≡ definitions_of program.now.definitions) }
 {
     let env = first_env(alloc, component.initial.as_slice())?;
-    let interface = Interface::of(alloc, component.show.as_slice())?;
+    let definitions = program.definitions.as_slice();
+    let show = component.show.as_slice();
+    let interface = Interface::of(alloc, show)?;
     let tree = Tree::Leaf(&component.run, Scope::empty(alloc));
     Ok(Live {
-        alloc,
-        program,
-        component,
+        definitions,
+        show,
+        tree,
         env,
         interface,
-        tree,
+        alloc,
     })
 }
 

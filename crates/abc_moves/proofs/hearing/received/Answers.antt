@@ -1,4 +1,4 @@
-use Rattle.std.proofs.Common.{◌≡◌, ◌∙◌, List, ap, subst}
+use Rattle.std.proofs.Common.{◌∙◌, List, ap, subst}
 use Rattle.abc_value.specs.declared.value.Value.{Value}
 use Rattle.abc_pred.specs.declared.names.Name.{Name}
 use Rattle.abc_term.specs.Standing.{updates_of}

@@ -1,4 +1,4 @@
-use Rattle.std.proofs.Common.{◌≡◌, ◌∙◌, ◌-◌, ◌<◌, ap, rules, arith, ℕ}
+use Rattle.std.proofs.Common.{◌∙◌, ◌-◌, ◌<◌, ap, rules}
 use Rattle.std.proofs.lemmas.Result.{IfOk-weaker}
 use Rattle.abc_pred.specs.Standing.{pred_of}
 use Rattle.abc_term.specs.Standing.{process_of, definitions_of, exprs_of, updates_of}

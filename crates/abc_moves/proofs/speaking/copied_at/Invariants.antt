@@ -1,4 +1,4 @@
-use Rattle.std.proofs.Common.{◌≡◌, [], drop, map}
+use Rattle.std.proofs.Common.{◌≡◌, [], drop}
 use Rattle.abc_moves.specs.Scopes.{bind_from, names_in}
 use Rattle.abc_moves.proofs.speaking.copied_at.Given as goal
 

@@ -1,4 +1,4 @@
-use Rattle.std.proofs.Common.{◌≡◌, ◌∙◌, ◌-◌, ◌<◌, ◌^◌, ap, sym, subst, ℕ, rules}
+use Rattle.std.proofs.Common.{◌∙◌, ◌-◌, ◌<◌, ◌^◌, ap, sym, subst, ℕ, rules}
 use Rattle.abc_term.specs.Standing.{process_of, definitions_of}
 use Rattle.abc_moves.specs.Labels.{label_of}
 use Rattle.abc_moves.specs.Walks.{parts_at}

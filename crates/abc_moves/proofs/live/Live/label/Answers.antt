@@ -16,4 +16,4 @@ returns c =
 pub outputs_of-total-requires : goal.outputs_of-total-requires
 outputs_of-total-requires c =
     let self = c.args.self.now in let at = c.new-at.result in
-    outputs_fit self.program.now (component_in self) self.sound (definitions_of at.definitions.now) c.depth-depth.result at.env.now c.new-at.ensures.definitions c.depth-depth.ensures c.new-at.ensures.env
+    outputs_fit self.definitions.now (component_in self) self.sound (definitions_of at.definitions.now) c.depth-depth.result at.env.now c.new-at.ensures.definitions c.depth-depth.ensures c.new-at.ensures.env

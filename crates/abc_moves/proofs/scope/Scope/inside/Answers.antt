@@ -1,4 +1,4 @@
-use Rattle.std.proofs.Common.{◌≡◌, ◌∙◌, ◌++◌, [], ap, subst, sym}
+use Rattle.std.proofs.Common.{◌≡◌, ◌++◌, [], subst, sym}
 use Rattle.abc_moves.specs.Scopes.{bind_from, bind_all, PutsInside, values_in}
 use Rattle.abc_moves.proofs.Scoped.{scope_bound, values_bound}
 use Rattle.abc_moves.proofs.scope.Scope.inside.Goals as goal
