@@ -1,0 +1,16 @@
+pub mod OperandReads
+pub mod OperandWhole
+pub mod PredReads
+pub mod PredWhole
+pub mod Steps
+pub mod Written
+pub mod NoTuples
+pub mod LimitLaws
+pub mod Exact
+pub mod Fronts
+pub mod Naming
+pub mod Texts
+pub mod Begins
+pub mod ExprReads
+pub mod ExprWhole
+pub mod ExprSteps

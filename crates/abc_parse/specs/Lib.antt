@@ -1,0 +1,10 @@
+pub mod Operands
+pub mod Preds
+pub mod Answers
+pub mod Joining
+pub mod Limiting
+pub mod Fronting
+pub mod Naming
+pub mod Reading
+pub mod Laws
+pub mod Exprs

@@ -1,0 +1,110 @@
+//! The parser: the tokens that are left, and what its methods answer.
+ghost use Rattle.std.specs.Prelude.{◌≡◌, ◌<◌, ◌≤◌, [], ◌∷◌, length, OnOk, MatchOption};
+ghost use Rattle.abc_parse.specs.Operands as spec;
+ghost use Rattle.abc_parse.specs.Preds as spec_pred;
+ghost use Rattle.abc_parse.specs.Answers.{Answers};
+
+use abc_cause::Cause;
+use abc_grammar::{Keyword, Lexeme, Mark};
+use abc_value::NoMemory;
+use std::alloc::Global;
+
+/// Why reading stops without a term.
+#[derive(Clone, Copy, Debug, PartialEq, Eq)]
+pub enum Stop {
+    /// The next token is refused.
+    Refused(Cause),
+    NoMemory,
+}
+
+impl From<NoMemory> for Stop {
+    ghost use Rattle.std.specs.Prelude.{◌≡◌};
+    ghost use Rattle.abc_parse.specs.declared.parser.Stop.TheVariants.{NoMemory as NoMemoryStop};
+
+    ghost from_gives = { λ _ e. e ≡ NoMemoryStop };
+
+    fn from(_: NoMemory) -> Stop {
+        Stop::NoMemory
+    }
+}
+
+/// A term that was read, to its end or as far as it goes.
+#[derive(Debug, Drop)]
+pub enum Part<A> {
+    /// No token that is left goes on with the term.
+    Whole(A),
+    /// A token that is left goes on with the term, and what it needs was refused for this cause.
+    Cut(A, Cause),
+}
+
+/// What is left of the tokens.
+#[derive(Drop)]
+pub struct Parser<'t> {
+    pub rest: &'t [Lexeme],
+    /// Behind a term that was cut: what is left from the refused token on.
+    pub ahead: &'t [Lexeme],
+    pub alloc: Global,
+}
+
+impl<'t> Parser<'t> {
+    /// The next token, and those after it.
+    pub fn next(&self) -> Option<(Lexeme, &'t [Lexeme])>
+        ensures { MatchOption result (self.now.rest.now ≡ []) (λ x. self.now.rest.now ≡ x.0 ∷ x.1.now) }
+    {
+        let (first, more) = self.rest.split_first()?;
+        Some((*first, more))
+    }
+
+    /// Ends a term before the token that was to go on with it, since what stands here is refused.
+    pub fn cut<A>(&mut self, before: &'t [Lexeme], term: A, cause: Cause) -> Part<A>
+        ensures part { result ≡ Part.Cut term cause }
+        ensures rest { self.new.rest.now ≡ before.now }
+        ensures ahead { self.new.ahead.now ≡ self.old.rest.now }
+    {
+        self.ahead = self.rest;
+        self.rest = before;
+        Part::Cut(term, cause)
+    }
+
+    /// `)`
+    pub fn close_round(&mut self) -> Result<(), Stop>
+        ensures reads { Answers (λ u. u) (spec.close_round tt self.old.rest.now) result self.new.rest.now }
+        ensures shorter { OnOk result (length self.new.rest.now < length self.old.rest.now) }
+    {
+        match self.next() {
+            Some((Lexeme::Mark(Mark::CloseRound), more)) => {
+                self.rest = more;
+                Ok(())
+            }
+            _ => Err(Stop::Refused(Cause::Syntax)),
+        }
+    }
+
+    /// `}`
+    pub fn close_curly(&mut self) -> Result<(), Stop>
+        ensures reads { Answers (λ u. u) (spec.close_curly tt self.old.rest.now) result self.new.rest.now }
+        ensures shorter { OnOk result (length self.new.rest.now < length self.old.rest.now) }
+    {
+        match self.next() {
+            Some((Lexeme::Mark(Mark::CloseCurly), more)) => {
+                self.rest = more;
+                Ok(())
+            }
+            _ => Err(Stop::Refused(Cause::Syntax)),
+        }
+    }
+
+    /// `]`
+    pub fn close_square(&mut self) -> Result<(), Stop>
+        ensures reads { Answers (λ u. u) (spec_pred.close_square tt self.old.rest.now) result self.new.rest.now }
+        ensures shorter { OnOk result (length self.new.rest.now < length self.old.rest.now) }
+    {
+        match self.next() {
+            Some((Lexeme::Mark(Mark::CloseSquare), more)) => {
+                self.rest = more;
+                Ok(())
+            }
+            _ => Err(Stop::Refused(Cause::Syntax)),
+        }
+    }
+}

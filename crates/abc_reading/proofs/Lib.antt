@@ -1,0 +1,5 @@
+pub mod Laws
+pub mod Again
+pub mod Chain
+pub mod Steps
+pub mod Exact
