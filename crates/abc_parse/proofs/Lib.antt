@@ -14,3 +14,4 @@ pub mod Begins
 pub mod ExprReads
 pub mod ExprWhole
 pub mod ExprSteps
+pub mod Tuples

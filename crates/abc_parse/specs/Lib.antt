@@ -8,3 +8,4 @@ pub mod Naming
 pub mod Reading
 pub mod Laws
 pub mod Exprs
+pub mod Tuples

@@ -125,7 +125,7 @@ impl<'t> Parser<'t> {
     /// An expression that is read whole.
     #[tactic(auto, unfolding(crate::specs::Exprs::whole_expr))]
     #[cycle(expr)]
-    fn whole_expr(&mut self) -> Result<Expr, Stop>
+    pub fn whole_expr(&mut self) -> Result<Expr, Stop>
         ensures reads { Answers expr_of (spec.whole_expr self.old.rest.now) result self.new.rest.now }
         ensures shorter { OnOk result (length self.new.rest.now < length self.old.rest.now) }
     {

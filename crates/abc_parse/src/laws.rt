@@ -1,4 +1,5 @@
 //! Laws of what is read, each the contract of a function that does nothing.
+ghost use Rattle.abc_parse.specs.Tuples.{ListsAreRead};
 ghost use Rattle.abc_parse.specs.Laws.{LiteralsAreRead, OperandsAreRead, ExprsAreRead, PredsAreRead};
 
 /// Operands are read as the grammar has them: what is read is an operand, what is an operand is read,
@@ -20,4 +21,9 @@ pub fn exprs_are_read()
 /// Predicates are read as the grammar has them, likewise.
 pub fn preds_are_read()
     ensures { PredsAreRead }
+{}
+
+/// Lists of expressions are read as the grammar has them, the limit of eight aside.
+pub fn lists_are_read()
+    ensures { ListsAreRead }
 {}

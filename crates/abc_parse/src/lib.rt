@@ -11,6 +11,7 @@ mod literal;
 mod operand;
 mod parser;
 mod pred;
+mod tuple;
 mod whole;
 
 pub use abc_lexer::{
@@ -18,6 +19,8 @@ pub use abc_lexer::{
     spelling, text, tokens,
 };
 pub use front::{Front, front_of};
-pub use laws::{exprs_are_read, literals_are_read, operands_are_read, preds_are_read};
+pub use laws::{
+    exprs_are_read, lists_are_read, literals_are_read, operands_are_read, preds_are_read,
+};
 pub use parser::{Parser, Part, Stop};
 pub use whole::parse_pred;

@@ -2,7 +2,7 @@ use crate::shown::shown_pred;
 use abc_grammar::{Keyword, Lexeme, Mark};
 use abc_parse::{Cause, Parser, Part, Stop, TextRefusal, parse_pred};
 use abc_pred::{Expr, Name};
-use abc_value::{List, Scalar, ShortText, Value};
+use abc_value::{List, NoMemory, Scalar, ShortText, Value};
 use std::alloc::{AllocError, Global};
 use std::process::Abort;
 use std::test::Fail;
@@ -369,4 +369,54 @@ fn literals(rt: HostRuntime) {
         _ => panic!(rt; "no set"),
     }
     assert!(rt; parser.rest.is_empty());
+}
+
+/// So many names parted by commas, and then these tokens.
+fn names_and(alloc: Global, count: usize, last: &[Lexeme]) -> Result<List<Lexeme>, NoMemory> {
+    let mut tokens = List::new(alloc);
+    tokens.push(Lexeme::Name(Name(0)))?;
+    for _ in 1..count {
+        tokens.push(Lexeme::Mark(Mark::Comma))?;
+        tokens.push(Lexeme::Name(Name(0)))?;
+    }
+    tokens.extend_from_slice(last)?;
+    Ok(tokens)
+}
+
+/// How many expressions are read from these tokens and how many tokens are left, or why none are.
+fn count_of(alloc: Global, tokens: &[Lexeme]) -> (Result<usize, Stop>, usize) {
+    let mut parser = Parser {
+        rest: tokens,
+        ahead: tokens,
+        alloc,
+    };
+    let count = match parser.exprs() {
+        Ok(exprs) => Ok(exprs.len()),
+        Err(stop) => Err(stop),
+    };
+    (count, parser.rest.len())
+}
+
+#[test]
+fn lists_of_expressions(rt: HostRuntime) -> Result<(), Fail> {
+    let alloc = rt.alloc();
+    let close = [Lexeme::Mark(Mark::CloseRound)];
+    let eight = names_and(alloc, 8, &close)?;
+    assert!(rt; count_of(alloc, eight.as_slice()) == (Ok(8), 1), "eight");
+    let nine = names_and(alloc, 9, &close)?;
+    let too_long = Err(Stop::Refused(Cause::LongTuple));
+    assert!(rt;
+        count_of(alloc, nine.as_slice()) == (too_long, 2),
+        "a ninth"
+    );
+    let comma = [Lexeme::Mark(Mark::Comma), Lexeme::Mark(Mark::CloseRound)];
+    let none = names_and(alloc, 8, &comma)?;
+    let syntax = Err(Stop::Refused(Cause::Syntax));
+    assert!(rt; count_of(alloc, none.as_slice()) == (syntax, 1), "no ninth");
+    let seven = names_and(alloc, 7, &comma)?;
+    assert!(rt;
+        count_of(alloc, seven.as_slice()) == (syntax, 1),
+        "no eighth"
+    );
+    Ok(())
 }
