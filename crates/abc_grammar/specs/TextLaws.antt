@@ -9,7 +9,7 @@ use Rattle.abc_grammar.specs.Plain.{plain_program}
 use Rattle.abc_grammar.specs.Fronts.{IsLongest, BeginsWithPred, BeginsWithNoPred}
 use Rattle.abc_grammar.specs.Accepted.{IsAccepted, IsRefused}
 
--- A text begins with one predicate, in one way, or it begins with none and is refused at one place for one cause.
+-- A text begins with at most one predicate, in one way, or with none and is refused at most at one place for one cause, and not both.
 pub record FrontsAreOne : Type 0 where
   pub longest : (ts : List Lexeme) (m n : ℕ) (p q : Pred) → IsLongest ts m p → IsLongest ts n q → (m ≡ n) × (p ≡ q)
   pub found :
@@ -27,7 +27,7 @@ pub record AreAlike (p q : Program) : Type 0 where
   pub terms : plain_program p ≡ plain_program q
   pub names : p.names ≡ q.names
 
--- A text is accepted as one program, or refused at one place for one cause, and not both.
+-- A text is accepted as at most one program, or refused at most at one place for one cause, and not both.
 pub record TextsAreOne : Type 0 where
   pub accepted : (bytes : List ℕ) (ts us : List Token) (p q : Program) → IsAccepted bytes ts p → IsAccepted bytes us q → (ts ≡ us) × AreAlike p q
   pub refused : (bytes : List ℕ) (i j : ℕ) (c d : Cause) → IsRefused bytes i c → IsRefused bytes j d → (i ≡ j) × (c ≡ d)

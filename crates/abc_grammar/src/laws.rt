@@ -30,12 +30,14 @@ pub fn lexemes_agree()
     ensures { LexemesAgree }
 {}
 
-/// A text begins with one predicate, or with none and is refused at one place for one cause.
+/// A text begins with at most one predicate, of one length, or with none and is refused at most at one
+/// place for one cause, and not both.
 pub fn fronts_are_one()
     ensures { FrontsAreOne }
 {}
 
-/// A text is accepted as one program, or refused at one place for one cause, and not both.
+/// A text is accepted as at most one program, or refused at most at one place for one cause, and not
+/// both.
 pub fn texts_are_one()
     ensures { TextsAreOne }
 {}
