@@ -352,22 +352,33 @@ const LITERALS: [Lexeme; 4] = [
     Lexeme::Mark(Mark::CloseCurly),
 ];
 
+/// The number that is read as a literal.
+fn number_read(parser: &mut Parser<'_>) -> Option<i64> {
+    let literal = parser.literal();
+    match &literal {
+        Ok(Value::Scalar(Scalar::Number(number))) => Some(*number),
+        _ => None,
+    }
+}
+
+/// Whether the empty set is read as a literal.
+fn reads_the_empty_set(parser: &mut Parser<'_>) -> bool {
+    let literal = parser.literal();
+    match &literal {
+        Ok(Value::Set(set)) => set.is_empty(),
+        _ => false,
+    }
+}
+
 #[test]
 fn literals(rt: HostRuntime) {
-    let alloc = rt.alloc();
     let mut parser = Parser {
         rest: &LITERALS,
         ahead: &LITERALS,
-        alloc,
+        alloc: rt.alloc(),
     };
-    match parser.literal() {
-        Ok(Value::Scalar(scalar)) => assert!(rt; scalar == Scalar::Number(-3)),
-        _ => panic!(rt; "no number"),
-    }
-    match parser.literal() {
-        Ok(Value::Set(set)) => assert!(rt; set.is_empty()),
-        _ => panic!(rt; "no set"),
-    }
+    assert!(rt; number_read(&mut parser) == Some(-3), "a signed number");
+    assert!(rt; reads_the_empty_set(&mut parser), "an empty set");
     assert!(rt; parser.rest.is_empty());
 }
 
