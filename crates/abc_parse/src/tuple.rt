@@ -65,11 +65,12 @@ impl<'t> Parser<'t> {
         ensures reads { AnswersExprs self.old.rest.now result self.new.rest.now }
         ensures shorter { OnOk result (length self.new.rest.now < length self.old.rest.now) }
     {
+        let most = MOST_PARTS;
         let mut found = List::new(self.alloc);
         self.one_more(&mut found)?;
         while let Some((Lexeme::Mark(Mark::Comma), more)) = self.next() {
             self.rest = more;
-            if found.len() == MOST_PARTS {
+            if found.len() == most {
                 return Err(self.ninth());
             }
             self.one_more(&mut found)?;

@@ -36,14 +36,14 @@ loop-more-init c =
       shorter = c.in_ok-one_more.ensures.shorter;
     }
 
-pub returns-then-len-eq-MOST_PARTS-clause-reads : goal.returns-then-len-eq-MOST_PARTS-clause-reads
-returns-then-len-eq-MOST_PARTS-clause-reads c =
+pub returns-then-len-most-clause-reads : goal.returns-then-len-most-clause-reads
+returns-then-len-most-clause-reads c =
     let ts = c.args.self.now.rest.now in
     let more = c.in-Some-Mark-Comma-default.more.now in
     let es = map expr_of c.loop-more.found in
     let here : c.loop-more.self.rest.now ≡ l.Mark m.Comma ∷ more = first_of (search rules, grind (arith, common_steps)) in
     let same : from_there es (l.Mark m.Comma ∷ more) ≡ exprs ts = sym (ap (from_there es) here) ∙ c.loop-more.invariant.same in
-    let full : length es ≡ 8 = length-map c.loop-more.found expr_of ∙ sym c.len.ensures ∙ c.if-len-eq-MOST_PARTS.true in
+    let full : length es ≡ 8 = length-map c.loop-more.found expr_of ∙ sym c.len.ensures ∙ c.if-len-most.true in
     ninth_refused ts more es same (subst (λ (us : Tokens). IsPassed ts es us) here c.loop-more.invariant.passed) c.ninth.new.self.rest.now c.ninth.result full c.ninth.ensures
 
 pub returns-in_err-one_more-2-clause-reads : goal.returns-in_err-one_more-2-clause-reads
@@ -57,7 +57,7 @@ returns-in_err-one_more-2-clause-reads c =
     let same : from_there es (l.Mark m.Comma ∷ more) ≡ exprs ts = sym (ap (from_there es) here) ∙ c.loop-more.invariant.same in
     let count : length es ≡ length c.loop-more.found = length-map c.loop-more.found expr_of in
     let few = c.loop-more.invariant.few in
-    let not_full = c.if-len-eq-MOST_PARTS.false in
+    let not_full = c.if-len-most.false in
     let len = c.len.ensures in
     let lt : length es < 8 = omega (arith, count, few, not_full, len) in
     handed_on ts rest c.from_residual-in_err-one_more-2.result s c.from_residual-in_err-one_more-2.ensures.1
@@ -76,7 +76,7 @@ loop-more-preserved c =
     let same : from_there es (l.Mark m.Comma ∷ more) ≡ exprs ts = sym (ap (from_there es) here) ∙ c.loop-more.invariant.same in
     let passed = subst (λ (us : Tokens). IsPassed ts es us) here c.loop-more.invariant.passed in
     let few = c.loop-more.invariant.few in
-    let not_full = c.if-len-eq-MOST_PARTS.false in
+    let not_full = c.if-len-most.false in
     let len = c.len.ensures in
     let less = c.loop-more.invariant.shorter in
     let passed_one : length c.loop-more.self.rest.now ≡ length (l.Mark m.Comma ∷ more) = ap (length {A = Lexeme}) here in
