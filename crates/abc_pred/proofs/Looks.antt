@@ -8,8 +8,7 @@ use Rattle.abc_pred.specs.declared.names.Name.{Name}
 use Rattle.abc_pred.specs.Maps.{Entries, RisesFrom, IsKept, look_up, same_name, without, with_entry, lists, ShowsTheSame, NamesRiseFrom, ListsTheSame}
 use Rattle.abc_pred.specs.Laws.{MapsAreWhatTheyShow, SettingSets, SettingKeepsTheOthers, SettingGivesAMap, ShownIsTheCut, ShownIsAMap, InterfacesAreTheirNames, ShownByNamesAlone}
 use Rattle.abc_pred.proofs.Shown.{look_up-shown}
-use Rattle.abc_pred.proofs.Entry.{rises-with, rises-without, rises-shown, rises-lower}
-use Rattle.abc_pred.proofs.Places.{look_up-absent}
+use Rattle.abc_pred.proofs.Entry.{rises-with, rises-without, rises-shown, rises-lower, look_up-absent}
 use Rattle.abc_pred.proofs.NameSets.{lists-absent, names-lower}
 
 -- ---- the name that is set

@@ -1,41 +1,13 @@
 -- The set of the names of a list, and where a name stands in it.
-use Rattle.std.proofs.Common.{◌≡◌, ℕ, zero, suc, ◌+◌, ◌<◌, ◌≤◌, ◌||◌, Bool, true, false, cond, ltb, List, [], ◌∷◌, length, get_or, refl, ap, sym, subst, inl, inr, arith, ◌∙◌}
-use Rattle.std.specs.List.{slice_get, dedup, dedup_from, list_any}
-use Rattle.std.specs.List.Sorted.{IsPartitionPoint, IsPartitionedBy, IsNonDecreasingBy, IsPermutation}
-use Rattle.std.proofs.lemmas.Bool.{lt-ltb, le-ltb, eq-eqb, ne_eqb, eqb-false, cases_order}
-use Rattle.std.proofs.lemmas.List.Sorted.{IsPartitionedBy-ltb, list_any-IsPermutation}
+use Rattle.std.proofs.Common.{◌≡◌, ℕ, zero, suc, ◌+◌, ◌<◌, ◌≤◌, ◌||◌, Bool, true, false, cond, List, [], ◌∷◌, Result, Ok, Err, IfOk, IfErr, is_ok, refl, ap, sym, subst, arith, ◌∙◌}
+use Rattle.std.specs.List.{dedup, dedup_from, list_any}
+use Rattle.std.specs.List.Sorted.{IsNonDecreasingBy, IsPermutation}
+use Rattle.std.proofs.lemmas.Bool.{eq-eqb, ne_eqb, eqb-false}
+use Rattle.std.proofs.lemmas.List.Sorted.{list_any-IsPermutation}
 use Rattle.abc_pred.specs.declared.names.Name.{Name}
 use Rattle.abc_pred.specs.Maps.{NamesRiseFrom, IsNameSet, lists, same_name}
-use Rattle.abc_pred.specs.Places.{names_below, is_name}
+use Rattle.abc_pred.specs.Places.{StandsAt, FitsAt}
 use Rattle.abc_pred.proofs.Shown.{same_name-eq}
-
-at_least : (low : ℕ) (ms : List Name) (j : ℕ) (d : Name) → NamesRiseFrom low ms → j < length ms → low ≤ (get_or ms j d).0
-at_least low [] j d s h = omega (arith, h)
-at_least low (m ∷ ms) zero d s h = s.0
-at_least low (m ∷ ms) (suc j) d s h =
-    let a : m.0 + 1 ≤ (get_or ms j d).0 = at_least (m.0 + 1) ms j d s.1 (omega (arith, h)) in
-    let b = s.0 in
-    omega arith
-
-non_decreasing : (low : ℕ) (ms : List Name) → NamesRiseFrom low ms → IsNonDecreasingBy (λ m. m.0) ms
-non_decreasing low [] s i j d h k = omega (arith, k)
-non_decreasing low (m ∷ ms) s zero zero d h k = omega arith
-non_decreasing low (m ∷ ms) s zero (suc j) d h k =
-    let a : m.0 + 1 ≤ (get_or ms j d).0 = at_least (m.0 + 1) ms j d s.1 (omega (arith, k)) in
-    omega arith
-non_decreasing low (m ∷ ms) s (suc i) zero d h k = absurd (omega (arith, h))
-non_decreasing low (m ∷ ms) s (suc i) (suc j) d h k = non_decreasing (m.0 + 1) ms s.1 i j d (omega (arith, h)) (omega (arith, k))
-
-pub partitioned : (n : Name) (ms : List Name) → IsNameSet ms → IsPartitionedBy (λ m. ltb m.0 n.0) ms
-partitioned n ms s = IsPartitionedBy-ltb (λ m. m.0) ms n.0 (non_decreasing 0 ms s)
-
-pub point-names_below : (n : Name) (ms : List Name) (i : ℕ) → i ≤ length ms → IsPartitionPoint (λ m. ltb m.0 n.0 ≡ true) (λ m. ltb m.0 n.0 ≡ false) ms i → i ≡ names_below n ms
-point-names_below n [] i h p = omega (arith, h)
-point-names_below n (m ∷ ms) zero h p = let f : ltb m.0 n.0 ≡ false = p.1 0 m (omega arith) (omega arith) in rw f refl
-point-names_below n (m ∷ ms) (suc i) h p =
-    let t : ltb m.0 n.0 ≡ true = p.0 0 m (omega arith) (omega arith) in
-    rw t
-    (ap suc (point-names_below n ms i (omega (arith, h)) (λ k d low high. p.0 (suc k) d (omega arith) (omega (arith, high)), λ k d low high. p.1 (suc k) d (omega (arith, low)) (omega (arith, high)))))
 
 pub lists-absent : (low : ℕ) (n : Name) (ms : List Name) → NamesRiseFrom low ms → n.0 < low → lists ms n ≡ false
 lists-absent low n [] s h = refl
@@ -43,14 +15,21 @@ lists-absent low n (m ∷ ms) s h =
     let a = s.0 in
     rw (ne_eqb m.0 n.0 (omega arith)) (lists-absent (m.0 + 1) n ms s.1 (omega arith))
 
-pub lists-at : (low : ℕ) (n : Name) (ms : List Name) → NamesRiseFrom low ms → lists ms n ≡ is_name n (slice_get ms (names_below n ms))
-lists-at low n [] s = refl
-lists-at low n (m ∷ ms) s =
-    elim (cases_order n.0 m.0) [
-      | inl same ↦ rw (eq-eqb m.0 n.0 (omega arith), le-ltb m.0 n.0 (omega arith)) (rw (eq-eqb m.0 n.0 (omega arith)) refl)
-      | inr (inl less) ↦ rw (ne_eqb m.0 n.0 (omega arith), le-ltb m.0 n.0 (omega arith)) (rw (ne_eqb m.0 n.0 (omega arith)) (lists-absent (m.0 + 1) n ms s.1 (omega arith)))
-      | inr (inr more) ↦ rw (ne_eqb m.0 n.0 (omega arith), lt-ltb m.0 n.0 more) (lists-at (m.0 + 1) n ms s.1)
-    ]
+-- a name that stands in a set is one of it, and one that only fits is none
+pub lists-stands : (n : Name) (ms : List Name) (i : ℕ) → StandsAt (λ m. m.0) n.0 ms i → lists ms n ≡ true
+lists-stands n [] i h = absurd h
+lists-stands n (m ∷ ms) zero h = rw (eq-eqb m.0 n.0 h) refl
+lists-stands n (m ∷ ms) (suc i) h = let below = h.0 in rw (ne_eqb m.0 n.0 (omega arith)) (lists-stands n ms i h.1)
+
+pub lists-fits : (low : ℕ) (n : Name) (ms : List Name) (i : ℕ) → NamesRiseFrom low ms → FitsAt (λ m. m.0) n.0 ms i → lists ms n ≡ false
+lists-fits low n [] i s h = refl
+lists-fits low n (m ∷ ms) zero s h = rw (ne_eqb m.0 n.0 (omega arith)) (lists-absent (m.0 + 1) n ms s.1 (omega arith))
+lists-fits low n (m ∷ ms) (suc i) s h = let below = h.0 in rw (ne_eqb m.0 n.0 (omega arith)) (lists-fits (m.0 + 1) n ms i s.1 h.1)
+
+-- so a search tells whether it is one
+pub lists-searched : (n : Name) (ms : List Name) (r : Result ℕ ℕ) → IsNameSet ms → IfOk r (StandsAt (λ m. m.0) n.0 ms) → IfErr r (FitsAt (λ m. m.0) n.0 ms) → is_ok r ≡ lists ms n
+lists-searched n ms (Ok i) s found absent = sym (lists-stands n ms i found)
+lists-searched n ms (Err i) s found absent = sym (lists-fits 0 n ms i s absent)
 
 pub names-lower : (low high : ℕ) (ms : List Name) → low ≤ high → NamesRiseFrom high ms → NamesRiseFrom low ms
 names-lower low high [] h s = tt

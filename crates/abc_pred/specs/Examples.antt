@@ -5,9 +5,9 @@ use Rattle.abc_value.specs.declared.scalar.Scalar.TheVariants.{Number}
 use Rattle.abc_value.specs.declared.value.Value.{Value}
 use Rattle.abc_value.specs.declared.value.Value.TheVariants.{Scalar, Set}
 use Rattle.abc_pred.specs.declared.names.Name.{Name}
-use Rattle.abc_pred.specs.Terms.{Literal, Attr, This, Var, Add, Free, Plain, SetOf, Union, Pred, Same}
+use Rattle.abc_pred.specs.Terms.{Operand, Literal, Attr, This, Var, Add, Free, Plain, SetOf, Union, Expr, Pred, Same}
 use Rattle.abc_pred.specs.Maps.{Entries, set_to, shown}
-use Rattle.abc_pred.specs.Meaning.{expr_val, sat, close}
+use Rattle.abc_pred.specs.Meaning.{expr_val, sat, close, IsOwn}
 
 abbrev pub number : ℤ → Value
 number n = Scalar (Number n)
@@ -58,3 +58,13 @@ FreeOfASet = expr_val (Plain (Free (This used))) (used_is (Number (pos 0) ∷ Nu
 -- [n := n + 1] at the greatest number gives none, which removes the name
 abbrev pub Overflow : Type 0
 Overflow = set_to (expr_val (Plain (Add (Attr g) (Literal (number (pos 1))))) (g_is (pos 9223372036854775807)) []) g (g_is (pos 9223372036854775807)) ≡ []
+
+-- union(set($colour, this.g), free(this.used)) is an own expression, and so it stays where a variable or an own attribute stands; an attribute of the other anywhere makes it none
+abbrev pub with_operand : Operand → Expr
+with_operand o = Union (SetOf (Var colour ∷ Add o (This g) ∷ [])) (Plain (Free (This used)))
+
+abbrev pub OwnReadsOwnAndVariables : Type 0
+OwnReadsOwnAndVariables = IsOwn (with_operand (Var g)) × IsOwn (with_operand (This g))
+
+abbrev pub OtherIsNotOwn : Type 0
+OtherIsNotOwn = ¬ IsOwn (with_operand (Attr g))

@@ -1,7 +1,7 @@
 //! What the definitions come to: each function's contract is a law, and its body does nothing.
 
 ghost use Rattle.abc_pred.specs.Laws.{MapsAreWhatTheyShow, SettingSets, SettingKeepsTheOthers, SettingGivesAMap, ShownIsTheCut, ShownIsAMap, InterfacesAreTheirNames, ShownByNamesAlone, TruthIsOfTheCutMap, OwnDependsOnOwnAlone, ClosingKeepsTruth, ClosingCloses, ClosingStopsAtClosed, ClosedDependsOnReceiverAlone};
-ghost use Rattle.abc_pred.specs.Examples.{ClosedForm, HoldsWhereShown, FailsAtAnotherValue, FailsWhereHidden, UpdateOfASet, FreeOfASet, Overflow};
+ghost use Rattle.abc_pred.specs.Examples.{ClosedForm, HoldsWhereShown, FailsAtAnotherValue, FailsWhereHidden, UpdateOfASet, FreeOfASet, Overflow, OwnReadsOwnAndVariables, OtherIsNotOwn};
 
 /// A map is its values at all names, and setting a name changes the value at that name alone.
 pub fn maps_are_finite_maps()
@@ -50,4 +50,6 @@ pub fn worked_examples()
     ensures update { UpdateOfASet }
     ensures free { FreeOfASet }
     ensures overflow { Overflow }
+    ensures own { OwnReadsOwnAndVariables }
+    ensures others { OtherIsNotOwn }
 {}

@@ -5,7 +5,7 @@ ghost use Rattle.abc_pred.specs.Terms.{Literal, SetOf};
 ghost use Rattle.abc_pred.specs.Standing.{operand_of, expr_of, pred_of};
 ghost use Rattle.abc_pred.specs.Seeing.{other_of};
 
-use crate::env::{Bindings, Env, Seen};
+use crate::env::{Bindings, Env, Seen, Variables};
 use crate::syntax::{Expr, Operand, Pred};
 use abc_value::{
     NoMemory, Value, View, add, holds, least_free, less, mul, same, set_of, size, sub, union,
@@ -24,14 +24,19 @@ fn number<'a>(n: Option<i64>) -> View<'a>
 
 /// The value of an operand, looked at in place: `a` is read in `other`, `this.a` in `own` and `$x` in
 /// `vars`. It takes no memory.
-pub fn look<'a>(o: &'a Operand, own: &'a Env, other: Seen<'a>, vars: &'a Bindings) -> View<'a>
-    ensures { seen result ≡ val (operand_of o.now) own.now (other_of other.entry) vars.now }
+pub fn look<'a, V: Variables>(
+    o: &'a Operand,
+    own: &'a Env,
+    other: Seen<'a>,
+    vars: &'a V,
+) -> View<'a>
+    ensures { seen result ≡ val (operand_of o.now) own.now (other_of other.entry) (V.bound vars.now) }
 {
     match o {
         Operand::Literal(v) => v.view(),
         Operand::Attr(n) => other.get(*n),
         Operand::This(n) => own.get(*n),
-        Operand::Var(n) => vars.get(*n),
+        Operand::Var(n) => vars.value(*n),
         Operand::Add(a, b) => number(add(look(a, own, other, vars), look(b, own, other, vars))),
         Operand::Sub(a, b) => number(sub(look(a, own, other, vars), look(b, own, other, vars))),
         Operand::Mul(a, b) => number(mul(look(a, own, other, vars), look(b, own, other, vars))),
@@ -42,8 +47,8 @@ pub fn look<'a>(o: &'a Operand, own: &'a Env, other: Seen<'a>, vars: &'a Binding
 
 /// Whether the predicate holds: `a` is read in `other`, `this.a` in `own` and `$x` in `vars`. It takes
 /// no memory.
-pub fn sat(p: &Pred, own: &Env, other: Seen<'_>, vars: &Bindings) -> bool
-    ensures { result ≡ sat (pred_of p.now) own.now (other_of other.entry) vars.now }
+pub fn sat<V: Variables>(p: &Pred, own: &Env, other: Seen<'_>, vars: &V) -> bool
+    ensures { result ≡ sat (pred_of p.now) own.now (other_of other.entry) (V.bound vars.now) }
 {
     match p {
         Pred::True => true,

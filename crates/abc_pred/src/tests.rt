@@ -30,7 +30,7 @@ fn after_changes(alloc: Global) -> Result<Env, NoMemory> {
 
 #[test]
 fn a_map_keeps_the_last_value_of_a_name(rt: HostRuntime) -> Result<(), Fail> {
-    let env = after_changes(rt.alloc())?;
+    let env = after_changes(rt.alloc())?.copy(rt.alloc())?;
     assert!(rt; same(env.get(Name(2)), View::Number(4)), "2 was set again");
     assert!(rt; same(env.get(Name(5)), View::Number(3)), "5 was set once");
     assert!(rt; same(env.get(Name(7)), View::Nothing), "7 was removed");
@@ -41,7 +41,8 @@ fn a_map_keeps_the_last_value_of_a_name(rt: HostRuntime) -> Result<(), Fail> {
 #[test]
 fn shown_has_the_names_of_the_interface(rt: HostRuntime) -> Result<(), Fail> {
     let env = after_changes(rt.alloc())?;
-    let interface = Interface::of(rt.alloc(), &[Name(9), Name(5), Name(7), Name(5)])?;
+    let names = [Name(9), Name(5), Name(7), Name(5)];
+    let interface = Interface::of(rt.alloc(), &names)?.copy(rt.alloc())?;
     assert!(rt;
         interface.has(Name(7)) && !interface.has(Name(2)),
         "the names of the interface"
@@ -78,7 +79,7 @@ fn single_boxed(alloc: Global) -> Result<Box<Expr>, NoMemory> {
 
 #[test]
 fn a_later_binding_is_the_one_in_a_set(rt: HostRuntime) -> Result<(), Fail> {
-    let vars = bound(rt.alloc(), 1, 2)?;
+    let vars = bound(rt.alloc(), 1, 2)?.copy(rt.alloc())?;
     let own = Env::empty(rt.alloc());
     let e = set_expression(rt.alloc())?;
     let value = eval(rt.alloc(), &e, &own, &vars)?;

@@ -1,22 +1,17 @@
-use Rattle.std.proofs.Common.{◌∙◌, sym, subst, ap}
-use Rattle.std.specs.List.{slice_get}
+use Rattle.std.proofs.Common.{◌∙◌, sym, subst, arith}
 use Rattle.abc_pred.specs.Maps.{IsMap}
-use Rattle.abc_pred.specs.Places.{stands_at, count_below}
-use Rattle.abc_pred.proofs.Entry.{out, none, rises-without}
+use Rattle.abc_pred.proofs.Search.{stands-within}
+use Rattle.abc_pred.proofs.Entry.{without-stands, without-fits, rises-without}
 use Rattle.abc_pred.proofs.env.remove.Goals as goal
 
-pub returns-then-stands-clause-removed : goal.returns-then-stands-clause-removed
-returns-then-stands-clause-removed c =
-    let es = c.args.entries.now.items in
-    c.remove.ensures.items
-    ∙ sym (out c.args.name es c.place-at.result (c.place-at.ensures ∙ ap (count_below c.args.name) c.deref.ensures.value)
-    (ap (λ l. stands_at c.args.name (slice_get l c.place-at.result)) (sym c.deref-2.ensures.value) ∙ sym c.stands.ensures ∙ c.if-stands.true))
+pub remove-requires : goal.remove-requires
+remove-requires c = let w = stands-within (λ e. e.0.0) c.args.name.0 _ _ (rw c.deref.ensures.value at c.in-Ok.ensures.found) in omega (arith, c.args.entries.now.ok.0)
 
-pub returns-else-stands-clause-removed : goal.returns-else-stands-clause-removed
-returns-else-stands-clause-removed c =
-    let es = c.args.entries.now.items in
-    sym (none c.args.name es c.place-at.result (c.place-at.ensures ∙ ap (count_below c.args.name) c.deref.ensures.value)
-    (ap (λ l. stands_at c.args.name (slice_get l c.place-at.result)) (sym c.deref-2.ensures.value) ∙ sym c.stands.ensures ∙ c.if-stands.false))
+pub returns-in-Ok-clause-removed : goal.returns-in-Ok-clause-removed
+returns-in-Ok-clause-removed c = c.remove.ensures.items ∙ sym (without-stands c.args.name _ _ (rw c.deref.ensures.value at c.in-Ok.ensures.found))
 
-pub returns-then-stands-clause-map : goal.returns-then-stands-clause-map
-returns-then-stands-clause-map c = subst IsMap (sym (returns-then-stands-clause-removed c)) (rises-without 0 c.args.name c.args.entries.now.items c.requires)
+pub returns-in-Ok-clause-map : goal.returns-in-Ok-clause-map
+returns-in-Ok-clause-map c = subst IsMap (sym (returns-in-Ok-clause-removed c)) (rises-without 0 c.args.name c.args.entries.now.items c.requires)
+
+pub returns-in-Err-clause-removed : goal.returns-in-Err-clause-removed
+returns-in-Err-clause-removed c = sym (without-fits c.args.name _ _ (rw c.deref.ensures.value at c.in-Err.ensures.absent))

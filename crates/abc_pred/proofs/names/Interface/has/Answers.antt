@@ -1,12 +1,18 @@
-use Rattle.std.proofs.Common.{◌∙◌, sym, ap}
-use Rattle.std.specs.List.{slice_get}
-use Rattle.abc_pred.specs.Places.{is_name}
-use Rattle.abc_pred.proofs.NameSets.{lists-at}
+use Rattle.std.proofs.Common.{◌∙◌, sym, ap, subst, rules}
+use Rattle.std.proofs.lemmas.List.Sorted.{answers_always}
+use Rattle.abc_pred.specs.Maps.{IsNameSet, lists}
+use Rattle.abc_pred.proofs.Search.{found_by, absent_by, names-rise}
+use Rattle.abc_pred.proofs.NameSets.{lists-searched}
 use Rattle.abc_pred.proofs.names.Interface.has.Goals as goal
 
 pub returns : goal.returns
 returns c =
     let n = c.args.name in
-    c.stands.ensures
-    ∙ ap (λ i. is_name n (slice_get c.as_slice-names.result.now i)) c.place.ensures
-    ∙ rw (c.as_slice-names.ensures.value, c.self.view_is) (sym (lists-at 0 n c.args.self.now (rw (c.self.view_is) at c.self.invariant)))
+    let ms = c.deref.result.now in
+    let facts = c.binary_search_by_key.ensures in
+    let by_key = facts.position (λ m. m.0) (answers_always _ _ _ (λ f a r g called. search rules)) in
+    let set : IsNameSet ms = subst IsNameSet (sym c.deref.ensures.value) c.self.invariant in
+    let rises = names-rise 0 ms set in
+    c.is_ok.ensures.value
+    ∙ lists-searched n ms _ set (found_by (λ m. m.0) 0 n.0 ms rises _ facts.bound by_key) (absent_by (λ m. m.0) 0 n.0 ms rises _ facts.bound by_key)
+    ∙ ap (λ l. lists l n) (c.deref.ensures.value ∙ c.self.view_is)
