@@ -1,5 +1,7 @@
 -- The steps through a set as it is written.
-use Rattle.std.proofs.Common.{◌≡◌, ◌⊎◌, ℕ, zero, suc, ◌+◌, ◌-◌, ◌<◌, ◌≤◌, Bool, true, false, All, List, [], ◌∷◌, ◌++◌, length, get_or, take, drop, flat_map, refl, ap, sym, subst, ◌∙◌, inl, inr, arith, append_assoc, append-nil, add-zero, length-take-le, take-append-drop}
+use Rattle.std.proofs.Common.{◌≡◌, ◌⊎◌, ◌↔◌, ℕ, zero, suc, ◌+◌, ◌-◌, ◌<◌, ◌≤◌, Bool, true, false, All, List, [], ◌∷◌, ◌++◌, ◌==◌, Option, Some, None, length, get_or, take, drop, flat_map, refl, ap, sym, subst, ◌∙◌, inl, inr, arith, append_assoc, append-nil, add-zero, length-append, length-take-le, take-append-drop}
+use Rattle.std.specs.Prelude.{IsErrOf}
+use Rattle.std.specs.Option.{ok_or}
 use Rattle.std.proofs.Math.Seq.{take-add}
 use Rattle.std.proofs.lemmas.Bool.{cases_lt}
 use Rattle.std.proofs.lemmas.List.{drop_at, drop_all, drop-drop, take_more, get_or-drop, length-drop}
@@ -8,12 +10,13 @@ use Rattle.std.proofs.lemmas.List.Elements.{All-push, All-nil, All-head, All-dro
 use Rattle.abc_value.specs.declared.scalar.Scalar.{Scalar}
 use Rattle.abc_value.specs.declared.value.Value.{Value}
 use Rattle.abc_value.specs.declared.value.Value.TheVariants.{Scalar as One, Set, Nothing}
-use Rattle.abc_value.specs.Sets.{IsSet, has_no_member}
-use Rattle.abc_value.specs.Literals.{BeginsWith, IsScalar, IsValue, scalar_text, next_text, members_text, literal, IsLongest, HasNoLiteral}
+use Rattle.abc_value.specs.Sets.{IsSet, MayFollow, has_no_member, last_of}
+use Rattle.abc_value.specs.Literals.{BeginsWith, IsScalar, IsValue, scalar_text, next_text, members_text, literal, IsLongest, HasLiteral, HasNoLiteral, ReadsValue}
+use Rattle.abc_value.specs.declared.literal.ValueRefusal.TheVariants.{Bad, NoMemory}
 use Rattle.abc_value.specs.Reading.{IsScalarFront, entry, IsEntry, IsMemberFront, NoMember}
 use Rattle.abc_value.proofs.Fronts.{first_is}
 use Rattle.abc_value.proofs.Words.{word_front}
-use Rattle.abc_value.proofs.Follow.{set_front}
+use Rattle.abc_value.proofs.Follow.{set_front, set_follow, follow_set, last_put, none_by_length}
 use Rattle.abc_value.proofs.Entries.{scalar_first, followed}
 
 -- ---- one step
@@ -186,28 +189,33 @@ set_more bytes held at x n so f s = record {
     others : (t : List Scalar) (rest : List ℕ) → All IsScalar t → bytes ≡ 123 ∷ (members_text t ++ 125 ∷ rest) → (u : List Scalar) × ((t ≡ (held ++ x ∷ []) ++ u) × (drop (at + n) bytes ≡ left (held ++ x ∷ []) u rest))
     others t rest all h = let o = so.others t rest all h in next t rest all o.0 o.1.0 o.1.1
 
--- ---- where no set stands at the front
-no_set : (bytes : List ℕ) (held : List Scalar) (at : ℕ) → IsSetSoFar bytes held at → ((rest : List ℕ) → drop at bytes ≡ left held [] rest → ⊥) → ((y : Scalar) (u : List Scalar) (rest : List ℕ) → IsScalar y → IsSet (held ++ y ∷ u) → drop at bytes ≡ left held (y ∷ u) rest → ⊥) → HasNoLiteral bytes
-no_set bytes held at so none some w h b =
-    only_sets bytes (first_open bytes held at so) w h b (λ v. ⊥) (λ s i c.
+-- ---- where a set stands at the front: all its members are read, or one is left
+of_set : (bytes : List ℕ) (held : List Scalar) (at : ℕ) (P : Type 0) → IsSetSoFar bytes held at
+    → ((rest : List ℕ) → drop at bytes ≡ left held [] rest → P)
+    → ((y : Scalar) (u : List Scalar) (rest : List ℕ) → IsScalar y → IsSet (held ++ y ∷ u) → drop at bytes ≡ left held (y ∷ u) rest → P)
+    → HasLiteral bytes → P
+of_set bytes held at P so none some l =
+    only_sets bytes (first_open bytes held at so) l.0 l.1.0 l.1.1 (λ v. P) (λ s i c.
     let o = so.others s c.0 i.1 (opens_set bytes s c) in which s c.0 i o.0 o.1.0 o.1.1)
   where
-    which : (s : List Scalar) (rest : List ℕ) → IsValue (Set s) → (u : List Scalar) → s ≡ held ++ u → drop at bytes ≡ left held u rest → ⊥
+    which : (s : List Scalar) (rest : List ℕ) → IsValue (Set s) → (u : List Scalar) → s ≡ held ++ u → drop at bytes ≡ left held u rest → P
     which s rest i [] e g = none rest g
     which s rest i (y ∷ u) e g = some y u rest (in_set held u y s e i.1) (subst (λ l. IsSet l) e i.0) g
 
-pub set_wrong : (bytes : List ℕ) (held : List Scalar) (at : ℕ) → IsSetSoFar bytes held at → NoMember (has_no_member held) (drop at bytes) → HasNoLiteral bytes
+-- none stands there where the next is no member
+pub set_wrong : (bytes : List ℕ) (held : List Scalar) (at : ℕ) → IsSetSoFar bytes held at → NoMember (has_no_member held) (drop at bytes) → ¬ (HasLiteral bytes)
 set_wrong bytes held at so n =
-    no_set bytes held at so (λ rest g. n.goes_on (no_left (drop at bytes) held rest g))
+    of_set bytes held at ⊥ so (λ rest g. n.goes_on (no_left (drop at bytes) held rest g))
     (λ y u rest h s g. n.no_entry y (is_entry (drop at bytes) held y u rest h g))
 
-pub set_refused : (bytes : List ℕ) (held : List Scalar) (at : ℕ) (x : Scalar) (n : ℕ) → IsSetSoFar bytes held at → IsMemberFront (has_no_member held) (drop at bytes) x n → ¬ (IsSet (held ++ x ∷ [])) → HasNoLiteral bytes
-set_refused bytes held at x n so f not_set =
-    no_set bytes held at so (λ rest g. f.goes_on (no_left (drop at bytes) held rest g))
+-- the members with the next are a set
+pub set_next : (bytes : List ℕ) (held : List Scalar) (at : ℕ) (x : Scalar) (n : ℕ) → IsSetSoFar bytes held at → IsMemberFront (has_no_member held) (drop at bytes) x n → HasLiteral bytes → IsSet (held ++ x ∷ [])
+set_next bytes held at x n so f =
+    of_set bytes held at (IsSet (held ++ x ∷ [])) so (λ rest g. absurd (f.goes_on (no_left (drop at bytes) held rest g)))
     (λ y u rest h s g.
     let same = f.only y (is_entry (drop at bytes) held y u rest h g) in
     let t : IsSet (held ++ x ∷ u) = subst (λ z. IsSet (held ++ z ∷ u)) same s in
-    not_set (set_front (held ++ x ∷ []) u (subst (λ l. IsSet l) (sym (append_assoc held (x ∷ []) u)) t)))
+    set_front (held ++ x ∷ []) u (subst (λ l. IsSet l) (sym (append_assoc held (x ∷ []) u)) t))
 
 -- a member that is left does not begin with the end
 no_close : (held : List Scalar) (y : Scalar) (u : List Scalar) (rest : List ℕ) → IsScalar y → get_or (left held (y ∷ u) rest) 0 0 ≡ 125 → ⊥
@@ -255,3 +263,62 @@ member_width first bytes x (suc n) f = omega arith
 pub member_shrinks : (first : Bool) (bytes : List ℕ) (at : ℕ) (x : Scalar) (n : ℕ) → at ≤ length bytes → IsMemberFront first (drop at bytes) x n → length bytes - (at + n) < length bytes - at
 member_shrinks first bytes at x n w f =
     let p = member_width first (drop at bytes) x n f in let l = f.within in let d = length-drop at bytes in omega arith
+
+-- ---- a set that is passed so far: of its members their number and the last are kept
+pub record IsPassedSoFar (bytes : List ℕ) (count : ℕ) (last : Option Scalar) (at : ℕ) : Type 0 where
+  pub held : List Scalar
+  pub so_far : IsSetSoFar bytes held at
+  pub number : length held ≡ count
+  pub end : last_of held ≡ last
+
+pub passed_none : (bytes : List ℕ) → get_or bytes 0 0 ≡ 123 → IsPassedSoFar bytes 0 None 1
+passed_none bytes e = record { held = []; so_far = set_begins bytes e; number = refl; end = refl }
+
+-- whether the step is the first
+first_step : (bytes : List ℕ) (count : ℕ) (last : Option Scalar) (at : ℕ) (p : IsPassedSoFar bytes count last at) → (count == 0) ≡ has_no_member p.held
+first_step bytes count last at p = ap (λ k. k == 0) (sym p.number) ∙ none_by_length p.held
+
+-- whether a member may follow
+follows : (bytes : List ℕ) (count : ℕ) (last : Option Scalar) (at : ℕ) (p : IsPassedSoFar bytes count last at) (x : Scalar) → MayFollow count last x ≡ MayFollow (length p.held) (last_of p.held) x
+follows bytes count last at p x = λ i. MayFollow (sym p.number i) (sym p.end i) x
+
+pub passed_more : (bytes : List ℕ) (count : ℕ) (last : Option Scalar) (at : ℕ) (x : Scalar) (n : ℕ) → IsPassedSoFar bytes count last at → IsMemberFront (count == 0) (drop at bytes) x n → MayFollow count last x → IsPassedSoFar bytes (count + 1) (Some x) (at + n)
+passed_more bytes count last at x n p f m =
+    let front : IsMemberFront (has_no_member p.held) (drop at bytes) x n = subst (λ b. IsMemberFront b (drop at bytes) x n) (first_step bytes count last at p) f in
+    let may : MayFollow (length p.held) (last_of p.held) x = subst (λ T. T) (follows bytes count last at p x) m in
+    record {
+      held = p.held ++ x ∷ [];
+      so_far = set_more bytes p.held at x n p.so_far front (follow_set p.held x p.so_far.is_set may);
+      number = let l = length-append p.held (x ∷ []) in let k = p.number in omega arith;
+      end = last_put p.held x;
+    }
+
+pub passed_refused : (bytes : List ℕ) (count : ℕ) (last : Option Scalar) (at : ℕ) (x : Scalar) (n : ℕ) → IsPassedSoFar bytes count last at → IsMemberFront (count == 0) (drop at bytes) x n → ¬ (MayFollow count last x) → HasNoLiteral bytes
+passed_refused bytes count last at x n p f refused w h b =
+    let front : IsMemberFront (has_no_member p.held) (drop at bytes) x n = subst (λ b. IsMemberFront b (drop at bytes) x n) (first_step bytes count last at p) f in
+    refused (subst (λ T. T) (sym (follows bytes count last at p x)) (set_follow p.held x (set_next bytes p.held at x n p.so_far front (w, (h, b)))))
+
+pub passed_wrong : (bytes : List ℕ) (count : ℕ) (last : Option Scalar) (at : ℕ) → IsPassedSoFar bytes count last at → NoMember (count == 0) (drop at bytes) → HasNoLiteral bytes
+passed_wrong bytes count last at p n w h b =
+    set_wrong bytes p.held at p.so_far (subst (λ b. NoMember b (drop at bytes)) (first_step bytes count last at p) n) (w, (h, b))
+
+-- ---- from the longest literal to one
+pub longest_literal : (bytes : List ℕ) (v : Value) (n : ℕ) → IsLongest bytes v n → HasLiteral bytes
+longest_literal bytes v n l = (v, (l.is_value, (drop n bytes, sym (take-append-drop n bytes) ∙ ap (λ t. t ++ drop n bytes) l.front)))
+
+pub passed_end : (bytes : List ℕ) (count : ℕ) (last : Option Scalar) (at : ℕ) → IsPassedSoFar bytes count last at → get_or (drop at bytes) 0 0 ≡ 125 → HasLiteral bytes
+passed_end bytes count last at p e = longest_literal bytes (Set p.held) (at + 1) (set_close bytes p.held at p.so_far e)
+
+-- where a literal was read, there is one
+pub some_literal : (bytes : List ℕ) (v : Value) (n : ℕ) → IsLongest bytes v n → ¬ (HasNoLiteral bytes)
+some_literal bytes v n l none = let h = longest_literal bytes v n l in none h.0 h.1.0 h.1.1
+
+-- a reading without memory is never answered by want of memory
+pub never_wanted : (r : Option (Value × ℕ)) → IsErrOf (ok_or r Bad) NoMemory → ⊥
+never_wanted None e = cc
+never_wanted (Some r) e = cc
+
+-- and it is answered by Bad exactly where no literal was read
+pub answered : (bytes : List ℕ) (r : Option (Value × ℕ)) → ReadsValue bytes r → IsErrOf (ok_or r Bad) Bad ↔ HasNoLiteral bytes
+answered bytes None none = ((λ e. none), (λ h. refl))
+answered bytes (Some r) l = ((λ e. cc), (λ h. absurd (some_literal bytes r.0 r.1 l h)))

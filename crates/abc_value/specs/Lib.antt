@@ -6,3 +6,4 @@ pub mod Literals
 pub mod Reading
 pub mod Laws
 pub mod Worked
+pub mod Limits

@@ -1,12 +1,11 @@
 -- The text of a value, its literal.
-use Rattle.std.specs.Prelude.{◌≡◌, ℕ, ◌≤◌, true, false, ◌||◌, ◌==◌, List, [], ◌∷◌, ◌++◌, length, take, flat_map, codes, All, if◌then◌else◌}
+use Rattle.std.specs.Prelude.{◌≡◌, ℕ, ◌≤◌, true, false, ◌||◌, ◌==◌, List, [], ◌∷◌, ◌++◌, length, take, flat_map, codes, All, Option, Some, None, if◌then◌else◌}
 use Rattle.std.specs.Fmt.{signed_decimal}
 use Rattle.abc_value.specs.declared.scalar.Scalar.{Scalar}
 use Rattle.abc_value.specs.declared.scalar.Scalar.TheVariants.{Number, Text, Truth}
 use Rattle.abc_value.specs.declared.value.Value.{Value}
 use Rattle.abc_value.specs.declared.value.Value.TheVariants.{Scalar as One, Set, Nothing}
-use Rattle.abc_value.specs.declared.literal.ValueRefusal.{ValueRefusal}
-use Rattle.abc_value.specs.declared.literal.ValueRefusal.TheVariants.{Bad, NoMemory}
+use Rattle.abc_value.specs.declared.limits.TheConstants.{LONGEST_TEXT}
 use Rattle.abc_value.specs.Sets.{IsSet}
 use Rattle.abc_value.specs.Text.{IsPrintable}
 use Rattle.abc_value.specs.Values.{fits_64}
@@ -37,10 +36,10 @@ literal (One x) = scalar_text x
 literal (Set s) = 123 ∷ (members_text s ++ 125 ∷ [])
 literal Nothing = codes "none"
 
--- ---- which values there are: numbers of 64 bits, texts of at most 64 printable bytes, sets
+-- ---- which values there are: numbers of 64 bits, texts of printable bytes that are not too long, sets
 abbrev pub IsScalar : Scalar → Type 0
 IsScalar (Number n) = fits_64 n ≡ true
-IsScalar (Text t) = (length t ≤ 64) × All IsPrintable t
+IsScalar (Text t) = (length t ≤ LONGEST_TEXT) × All IsPrintable t
 IsScalar (Truth b) = Unit {0}
 
 abbrev pub IsValue : Value → Type 0
@@ -64,7 +63,11 @@ pub record IsLongest (bytes : List ℕ) (v : Value) (n : ℕ) : Type 0 where
 abbrev pub HasNoLiteral : List ℕ → Type 0
 HasNoLiteral bytes = (w : Value) → IsValue w → ¬ (BeginsWith bytes (literal w))
 
--- a refusal for want of memory says nothing; any other, that there is no literal
-abbrev pub IsRefusal : List ℕ → ValueRefusal → Type 0
-IsRefusal bytes Bad = HasNoLiteral bytes
-IsRefusal bytes NoMemory = Unit {0}
+-- a front of the bytes is a literal
+abbrev pub HasLiteral : List ℕ → Type 0
+HasLiteral bytes = (w : Value) × (IsValue w × BeginsWith bytes (literal w))
+
+-- what is read of the bytes without memory: the longest literal, or none where no front is one
+abbrev pub ReadsValue : List ℕ → Option (Value × ℕ) → Type 0
+ReadsValue bytes None = HasNoLiteral bytes
+ReadsValue bytes (Some r) = IsLongest bytes r.0 r.1

@@ -1,5 +1,6 @@
 //! Laws of the definitions, each the contract of a function that does nothing.
 ghost use Rattle.abc_value.specs.Worked.{SetOperators};
+ghost use Rattle.abc_value.specs.Limits.{LimitsOfValues};
 ghost use Rattle.abc_value.specs.Laws.{SetsAreTheirMembers, MembersStand, SetsOfLists, Unions, Differences, LeastFreeNumbers, MembersAreOrdered, SameIsEquality, LiteralsDiffer, WrittenIsRead};
 
 /// Two sets are the same exactly where they have the same members.
@@ -55,4 +56,9 @@ pub fn written_is_read()
 /// The operators on sets, worked on one example.
 pub fn set_operators()
     ensures { SetOperators }
+{}
+
+/// The limits of sets, texts and numbers, worked on both sides of each.
+pub fn limits_of_values()
+    ensures { LimitsOfValues }
 {}

@@ -1,9 +1,10 @@
 //! Reading a number.
-ghost use Rattle.std.specs.Prelude.{◌≡◌, ◌≤◌, ◌<◌, ◌-◌, ◌^◌, ℕ, slice_index, MatchOption, pos, negsuc, drop, ◌+◌, ◌*◌};
+ghost use Rattle.std.specs.Prelude.{◌≡◌, ◌≤◌, ◌<◌, ◌-◌, ◌^◌, ℕ, slice_index, MatchOption, pos, negsuc, ◌+◌, ◌*◌};
 ghost use Rattle.std.specs.Option.{SomeIff};
 ghost use Rattle.abc_value.specs.Reading.{IsDigitAt, NoDigitAt, IsMore, NoMore, IsDecimalFront, NoDecimal, ReadsScalar, IsNoMark};
 ghost use Rattle.abc_value.specs.declared.scalar.Scalar.TheVariants.{Number};
 
+use crate::bytes::behind_first;
 use crate::scalar::Scalar;
 
 /// The digit at a place.
@@ -88,19 +89,9 @@ pub fn negative(bytes: &[u8]) -> Option<(Scalar, usize)>
     requires { slice_index bytes.now 0 ≡ 45 }
     ensures { ReadsScalar bytes.now result }
 {
-    match magnitude(after_first(bytes), 1 << 63) {
-        Some((m, n)) if m > 0 => Some(below_zero(m, n)),
-        Some(_) => None,
+    match magnitude(behind_first(bytes), 1 << 63) {
+        Some((m, n)) => { if m > 0 { Some(below_zero(m, n)) } else { None } }
         None => None,
-    }
-}
-
-fn after_first(bytes: &[u8]) -> &[u8]
-    ensures { result.now ≡ drop 1 bytes.now }
-{
-    match bytes.split_first() {
-        Some((_, rest)) => rest,
-        None => bytes,
     }
 }
 

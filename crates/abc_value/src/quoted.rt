@@ -2,8 +2,9 @@
 ghost use Rattle.std.specs.Prelude.{◌≡◌, ◌≤◌, length, drop, slice_index};
 ghost use Rattle.abc_value.specs.Reading.{IsPiece, ReadsScalar};
 
+use crate::limits::LONGEST_TEXT;
 use crate::scalar::Scalar;
-use crate::text::ShortText;
+use crate::text::{ShortText, is_printable};
 
 /// What stands next in a text.
 #[derive(Clone, Copy, Debug)]
@@ -29,7 +30,7 @@ fn next_piece(bytes: &[u8]) -> Piece
     if first == b'\\' {
         return escape(bytes);
     }
-    if first < 32 || first > 126 {
+    if !is_printable(first) {
         return Piece::Bad;
     }
     Piece::Byte(first, 1)
@@ -67,7 +68,7 @@ pub fn text(bytes: &[u8]) -> Option<(Scalar, usize)>
         match piece_at(bytes, at) {
             Piece::Quote => return Some((Scalar::Text(held), at + 1)),
             Piece::Byte(byte, width) => {
-                if held.len() == 64 {
+                if held.len() == LONGEST_TEXT {
                     return None;
                 }
                 held.push(byte);

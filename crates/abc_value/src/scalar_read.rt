@@ -1,8 +1,8 @@
 //! Reading a scalar.
-ghost use Rattle.std.specs.Prelude.{◌≡◌, ◌≤◌, ◌⊎◌, length, drop, slice_index, MatchBool};
+ghost use Rattle.std.specs.Prelude.{◌≡◌, ◌≤◌, ◌⊎◌, length, drop, slice_index};
 ghost use Rattle.abc_value.specs.Reading.{ReadsScalar, IsNoMark};
-ghost use Rattle.abc_value.specs.Literals.{BeginsWith};
 
+use crate::bytes::{begins_with, first_byte};
 use crate::number::{natural, negative};
 use crate::quoted::text;
 use crate::scalar::Scalar;
@@ -27,13 +27,6 @@ pub fn read_scalar_at(bytes: &[u8], at: usize) -> Option<(Scalar, usize)>
     read_scalar(&bytes[at..])
 }
 
-/// The first byte, 0 where there is none.
-pub fn first_byte(bytes: &[u8]) -> u8
-    ensures { result ≡ slice_index bytes.now 0 }
-{
-    if bytes.is_empty() { 0 } else { bytes[0] }
-}
-
 fn truth(bytes: &[u8]) -> Option<(Scalar, usize)>
     requires { (slice_index bytes.now 0 ≡ 116) ⊎ (slice_index bytes.now 0 ≡ 102) }
     ensures { ReadsScalar bytes.now result }
@@ -45,11 +38,4 @@ fn truth(bytes: &[u8]) -> Option<(Scalar, usize)>
         return Some((Scalar::Truth(false), 5));
     }
     None
-}
-
-/// Whether the bytes begin with a word.
-pub fn begins_with(bytes: &[u8], word: &[u8]) -> bool
-    ensures { MatchBool result (BeginsWith bytes.now word.now) (¬ (BeginsWith bytes.now word.now)) }
-{
-    bytes.starts_with(word)
 }

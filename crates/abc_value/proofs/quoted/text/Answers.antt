@@ -5,8 +5,8 @@ use Rattle.abc_value.proofs.quoted.text.Goals as goal
 pub returns-in-Quote : goal.returns-in-Quote
 returns-in-Quote c = text_end _ _ _ c.pieces.invariant c.in-Quote.ensures
 
-pub returns-then-len-eq64 : goal.returns-then-len-eq64
-returns-then-len-eq64 c = text_long _ _ _ c.in-Byte.byte _ c.pieces.invariant (let v = c.len.ensures.value in omega arith) c.in-Byte.ensures.1 c.in-Byte.ensures.2
+pub returns-then-len-eq-LONGEST_TEXT : goal.returns-then-len-eq-LONGEST_TEXT
+returns-then-len-eq-LONGEST_TEXT c = text_long _ _ _ c.in-Byte.byte _ c.pieces.invariant (let v = c.len.ensures.value in omega arith) c.in-Byte.ensures.1 c.in-Byte.ensures.2
 
 pub pieces-preserved : goal.pieces-preserved
 pieces-preserved c =

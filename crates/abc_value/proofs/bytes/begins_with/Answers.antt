@@ -1,5 +1,5 @@
 use Rattle.abc_value.proofs.Words.{begins_from}
-use Rattle.abc_value.proofs.scalar_read.begins_with.Goals as goal
+use Rattle.abc_value.proofs.bytes.begins_with.Goals as goal
 
 pub returns : goal.returns
 returns c = begins_from _ _ _ c.starts_with.ensures.value

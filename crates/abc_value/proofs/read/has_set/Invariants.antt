@@ -1,9 +1,9 @@
 use Rattle.std.proofs.Common.{◌-◌, length}
-use Rattle.abc_value.proofs.Steps.{IsSetSoFar}
-use Rattle.abc_value.proofs.read.read_set.Given as goal
+use Rattle.abc_value.proofs.Steps.{IsPassedSoFar}
+use Rattle.abc_value.proofs.read.has_set.Given as goal
 
 abbrev pub invariant-members : goal.invariant-members
-invariant-members l = IsSetSoFar l.bytes l.set l.at
+invariant-members l = IsPassedSoFar l.bytes l.count l.last l.at
 
 abbrev pub decreases-members : goal.decreases-members
 decreases-members l = length l.bytes - l.at
