@@ -111,6 +111,7 @@ impl Source for MemorySource {
         ensures within { IfOk result (λ n. n ≤ length into.new) }
         ensures moved { IfOk result (λ n. Consumes (Some self.old.left) (Some self.new.left) (take n into.new)) }
         ensures ended { IfOk result (λ n. n ≡ 0 → 0 < length into.new → IsAtEnd (Some self.new.left)) }
+        ensures sound { OnOk result (self.new.faults ≡ self.old.faults) }
         ensures failed { OnErr result (Rose self.old.faults self.new.faults) }
         ensures stays { OnErr result (Keeps (Some self.old.left) (Some self.new.left)) }
 
@@ -211,6 +212,7 @@ impl Sink for MemorySink {
         ensures within { IfOk result (λ n. n ≤ length bytes.now) }
         ensures takes_some { IfOk result (λ n. 0 < length bytes.now → 0 < n) }
         ensures appended { IfOk result (λ n. Appends (Some self.old.written) (Some self.new.written) (take n bytes.now)) }
+        ensures sound { OnOk result (self.new.faults ≡ self.old.faults) }
         ensures failed { OnErr result (Rose self.old.faults self.new.faults) }
         ensures stays { OnErr result (Keeps (Some self.old.written) (Some self.new.written)) }
 

@@ -1,5 +1,5 @@
 //! A source read to its end, and a text written whole.
-ghost use Rattle.std.specs.Prelude.{◌≡◌, ◌<◌, ◌≤◌, ◌++◌, ◌↔◌, length, take, IfOk, IfErr, IfSome, OnOk, OnErr, IsErrOf};
+ghost use Rattle.std.specs.Prelude.{◌≡◌, ◌<◌, ◌≤◌, ◌++◌, ◌↔◌, ◌⊎◌, [], length, take, IfOk, IfErr, IfSome, OnOk, OnErr, IsErrOf};
 ghost use Rattle.std.specs.Io.KnownBytes.{Appends, IsAtEnd};
 ghost use Rattle.abc_io.specs.Devices.{Rose};
 ghost use Rattle.abc_io.specs.Whole.{HasRead};
@@ -29,9 +29,9 @@ pub struct WriteFault {
     pub written: usize,
 }
 
-/// All bytes up to the end of the source, at most `max`. `Fault` comes where a read failed,
-/// `TooLong` where a byte past `max` was read, `NoMemory` at the growth of the list. After a
-/// refusal the source stands where the last read left it.
+/// All bytes up to the end of the source, at most `max`. `Fault` comes where a read failed, and none
+/// follows; `TooLong` where a byte past `max` was read, `NoMemory` at the growth of the list. After
+/// a refusal the source stands where the last read left it.
 pub fn read_all<S: Source>(
     alloc: Global,
     source: &mut S,
@@ -40,6 +40,7 @@ pub fn read_all<S: Source>(
     // For every source.
     ensures never_falls { S.fault_count source.old ≤ S.fault_count source.new }
     ensures fault { IsErrOf result ReadRefusal.Fault → Rose (S.fault_count source.old) (S.fault_count source.new) }
+    ensures sound { IsErrOf result ReadRefusal.Fault ⊎ (S.fault_count source.new ≡ S.fault_count source.old) }
     ensures within { IfOk result (λ bytes. length bytes ≤ max) }
 
     // Where the source tells its bytes.
@@ -76,12 +77,15 @@ fn append(bytes: &mut List<u8>, more: &[u8]) -> Result<(), NoMemory>
     Ok(())
 }
 
-/// Writes all of `bytes`, or says how many the sink took before it failed. It takes no memory.
+/// Writes all of `bytes`, or says how many the sink took before it failed; no write follows. A text
+/// of no bytes is not written. It takes no memory.
 pub fn write_whole<K: Sink>(sink: &mut K, bytes: &[u8]) -> Result<(), WriteFault>
     // For every sink.
     ensures never_falls { K.fault_count sink.old ≤ K.fault_count sink.new }
     ensures fault { OnErr result (Rose (K.fault_count sink.old) (K.fault_count sink.new)) }
+    ensures sound { OnOk result (K.fault_count sink.new ≡ K.fault_count sink.old) }
     ensures proper { IfErr result (λ fault. fault.written < length bytes.now) }
+    ensures unwritten { bytes.now ≡ [] → sink.new ≡ sink.old }
 
     // Where the sink tells its bytes.
     ensures whole { OnOk result (Appends (K.told sink.old) (K.told sink.new) bytes.now) }
