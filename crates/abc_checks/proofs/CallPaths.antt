@@ -1,58 +1,26 @@
 -- Ways along the arrows between places are paths of calls between names.
 use Rattle.std.proofs.Common.{◌≡◌, ◌⊎◌, ◌<◌, ◌||◌, ◌==◌, ◌↔◌, ℕ, suc, Bool, true, false, IsTrue, List, [], ◌∷◌, length, map, get_or, refl, sym, ◌∙◌, ap, subst, inl, inr, arith, if◌then◌else◌}
 use Rattle.std.proofs.lemmas.List.{length-map}
-use Rattle.std.proofs.lemmas.Bool.Decides.{nat_tests}
+use Rattle.std.proofs.lemmas.Bool.{or_cases, or_left, or_right, false≢true}
 use Rattle.abc_pred.specs.declared.names.Name.{Name}
 use Rattle.abc_pred.specs.Maps.{lists, same_name}
 use Rattle.abc_term.specs.declared.terms.Definition.{Definition}
 use Rattle.abc_term.specs.Processes.{Process, Nil, body_of}
 use Rattle.abc_term.specs.Standing.{definitions_of, process_of}
-use Rattle.abc_checks.specs.Parts.{place_of, calls, unguarded_calls}
-use Rattle.abc_checks.specs.Reaching.{Reaches, at_once, by_way_of}
+use Rattle.abc_term.specs.Calls.{called, Reaches, at_once, by_way_of}
+use Rattle.abc_term.proofs.Listed.{same_itself}
+use Rattle.abc_pred.proofs.Shown.{same_name-eq}
+use Rattle.abc_checks.specs.Parts.{place_of}
 use Rattle.abc_checks.specs.Graphs.{graph_of, Member, Arrow, Path, arrow, arrows}
-
-pub false_not_true : {A : Type 0} → false ≡ true → A
-false_not_true h = cc
-
-numbers_agree : (m n : ℕ) → (m == n) ≡ true → m ≡ n
-numbers_agree m n h = grind (arith, nat_tests)
-
-pub one_name : (m n : Name) → same_name m n ≡ true → m ≡ n
-one_name m n h =
-    let e : m.0 ≡ n.0 = numbers_agree m.0 n.0 h in
-    let made : ℕ → Name = λ k. record { 0 = k } in
-    ap made e
-
-itself_num : (m : ℕ) → (m == m) ≡ true
-itself_num m = grind (arith, nat_tests)
-
-pub same_itself : (n : Name) → same_name n n ≡ true
-same_itself n = itself_num n.0
-
-pub either : (a b : Bool) → (a || b) ≡ true → (a ≡ true) ⊎ (b ≡ true)
-either true b h = inl refl
-either false b h = inr h
-
-pub from_left : (a b : Bool) → a ≡ true → (a || b) ≡ true
-from_left true b h = refl
-from_left false b h = false_not_true h
-
-pub from_right : (a b : Bool) → b ≡ true → (a || b) ≡ true
-from_right true b h = refl
-from_right false b h = h
-
-pub pick : (b : Bool) → (b ≡ true) ⊎ (b ≡ false)
-pick true = inl refl
-pick false = inr refl
 
 module _ (called_by : Process → List Name) (none : called_by Nil ≡ []) where
   -- ---- Members of the places of names
 
   to_member : (place : Name → ℕ) (xs : List Name) (d : Name) → lists xs d ≡ true → Member (place d) (map place xs)
-  to_member place [] d h = false_not_true h
+  to_member place [] d h = absurd (false≢true h)
   to_member place (x ∷ xs) d h =
-      elim (either (same_name x d) (lists xs d) h) [
-        | inl e ↦ inl (ap place (one_name x d e))
+      elim (or_cases (same_name x d) (lists xs d) h) [
+        | inl e ↦ inl (ap place (same_name-eq x d e))
         | inr more ↦ inr (to_member place xs d more)
       ]
 
@@ -60,10 +28,10 @@ module _ (called_by : Process → List Name) (none : called_by Nil ≡ []) where
   from_member place [] j h = absurd h
   from_member place (x ∷ xs) j h =
       elim h [
-        | inl e ↦ (x, from_left (same_name x x) (lists xs x) (same_itself x), e)
+        | inl e ↦ (x, or_left (same_name x x) (lists xs x) (same_itself x), e)
         | inr more ↦
             let found : (d : Name) × (lists xs d ≡ true) × (place d ≡ j) = from_member place xs j more in
-            (found.0, from_right (same_name x found.0) (lists xs found.0) found.1, found.2)
+            (found.0, or_right (same_name x found.0) (lists xs found.0) found.1, found.2)
       ]
 
   -- ---- What stands at the place of a name
@@ -96,7 +64,7 @@ module _ (called_by : Process → List Name) (none : called_by Nil ≡ []) where
   chosen_defined false P Q p n x more h = suc_lt p n (more h)
 
   calls_defined : (ds : List Definition) (c x : Name) → lists (called_by (body_of (definitions_of ds) c)) x ≡ true → place_of (definitions_of ds) c < length ds
-  calls_defined [] c x h = false_not_true (subst (λ (xs : List Name). lists xs x ≡ true) none h)
+  calls_defined [] c x h = absurd (false≢true (subst (λ (xs : List Name). lists xs x ≡ true) none h))
   calls_defined (d ∷ ds) c x h =
       chosen_defined (same_name d.name c) (process_of d.body) (body_of (definitions_of ds) c) (place_of (definitions_of ds) c) (length ds) x
       (calls_defined ds c x) h
@@ -113,7 +81,7 @@ module _ (called_by : Process → List Name) (none : called_by Nil ≡ []) where
   one_place [] c d lt e = absurd (omega arith)
   one_place (n ∷ ds) c d lt e =
       one_place_at (same_name n.name c) (same_name n.name d) n.name c d (place_of (definitions_of ds) c) (place_of (definitions_of ds) d) (length ds)
-      (one_name n.name c) (one_name n.name d) (one_place ds c d) lt e
+      (same_name-eq n.name c) (same_name-eq n.name d) (one_place ds c d) lt e
 
   -- ---- Ways and paths
   module _ (ds : List Definition) where
@@ -123,17 +91,17 @@ module _ (called_by : Process → List Name) (none : called_by Nil ≡ []) where
     abbrev graph : List (List ℕ)
     graph = graph_of called_by ds
 
-    abbrev called : Name → List Name
-    called c = called_by (body_of (definitions_of ds) c)
+    abbrev names_called : Name → List Name
+    names_called c = called_by (body_of (definitions_of ds) c)
 
     size : length graph ≡ length ds
     size = length-map ds (λ (d : Definition). map (place_of (definitions_of ds)) (called_by (process_of d.body)))
 
-    at_node : (c : Name) → get_or graph (place c) [] ≡ map place (called c)
+    at_node : (c : Name) → get_or graph (place c) [] ≡ map place (names_called c)
     at_node c = at_place (λ (P : Process). map place (called_by P)) (ap (map place) none) ds c
 
-    along : (c : Name) (j : ℕ) → Arrow graph (place c) j → (d : Name) × (lists (called c) d ≡ true) × (place d ≡ j)
-    along c j a = from_member place (called c) j (subst (λ (xs : List ℕ). Member j xs) (at_node c) a.1)
+    along : (c : Name) (j : ℕ) → Arrow graph (place c) j → (d : Name) × (lists (names_called c) d ≡ true) × (place d ≡ j)
+    along c j a = from_member place (names_called c) j (subst (λ (xs : List ℕ). Member j xs) (at_node c) a.1)
 
     path_calls : {i j : ℕ} → Path graph i j → (c : Name) → place c ≡ i → (d : Name) × Reaches called_by (definitions_of ds) c d × (place d ≡ j)
     path_calls {j = j} (arrow a) c e =
@@ -148,9 +116,9 @@ module _ (called_by : Process → List Name) (none : called_by Nil ≡ []) where
     path_inside (arrow a) = a.0
     path_inside (arrows a p) = path_inside p
 
-    by_call : (c d : Name) → place d < length ds → lists (called c) d ≡ true → Arrow graph (place c) (place d)
+    by_call : (c d : Name) → place d < length ds → lists (names_called c) d ≡ true → Arrow graph (place c) (place d)
     by_call c d lt l =
-        (subst (λ (n : ℕ). place d < n) (sym size) lt, subst (λ (xs : List ℕ). Member (place d) xs) (sym (at_node c)) (to_member place (called c) d l))
+        (subst (λ (n : ℕ). place d < n) (sym size) lt, subst (λ (xs : List ℕ). Member (place d) xs) (sym (at_node c)) (to_member place (names_called c) d l))
 
     reaching_defined : {c d : Name} → Reaches called_by (definitions_of ds) c d → place c < length ds
     reaching_defined {c = c} {d = d} (at_once l) = calls_defined ds c d l
@@ -161,7 +129,7 @@ module _ (called_by : Process → List Name) (none : called_by Nil ≡ []) where
     calls_path {c = c} (by_way_of {d = m} l r) lt = arrows (by_call c m (reaching_defined r) l) (calls_path r lt)
 
     -- a definition is on a cycle of arrows where it is on one of calls
-    pub cycle : (c : Name) → Path graph (place c) (place c) ↔ Reaches called_by (definitions_of ds) c c
+    cycle : (c : Name) → Path graph (place c) (place c) ↔ Reaches called_by (definitions_of ds) c c
     cycle c = (
       λ p.
           let found = path_calls p c refl in
@@ -170,27 +138,12 @@ module _ (called_by : Process → List Name) (none : called_by Nil ≡ []) where
       λ r. calls_path r (reaching_defined r),
     )
 
-pub unguarded_cycle : (ds : List Definition) (c : Name)
-    → Path (graph_of unguarded_calls ds) (place_of (definitions_of ds) c) (place_of (definitions_of ds) c) ↔ Reaches unguarded_calls (definitions_of ds) c c
-unguarded_cycle ds c = cycle unguarded_calls refl ds c
-
-pub call_cycle : (ds : List Definition) (c : Name)
-    → Path (graph_of calls ds) (place_of (definitions_of ds) c) (place_of (definitions_of ds) c) ↔ Reaches calls (definitions_of ds) c c
-call_cycle ds c = cycle calls refl ds c
-
--- ---- For the code
-
-module _ (called_by : Process → List Name) (ds : List Definition) (c : Name) (onward : Path (graph_of called_by ds) (place_of (definitions_of ds) c) (place_of (definitions_of ds) c) ↔ Reaches called_by (definitions_of ds) c c) where
-  answered : (g : List (List ℕ)) (n : ℕ) (b : Bool) → g ≡ graph_of called_by ds → n ≡ place_of (definitions_of ds) c → (IsTrue b ↔ Path g n n) → IsTrue b ↔ Reaches called_by (definitions_of ds) c c
-  answered g n b eg en h = (
-    λ t. onward.0 (subst (λ (k : ℕ). Path (graph_of called_by ds) k k) en (subst (λ (x : List (List ℕ)). Path x n n) eg (h.0 t))),
-    λ r. h.1 (subst (λ (x : List (List ℕ)). Path x n n) (sym eg) (subst (λ (k : ℕ). Path (graph_of called_by ds) k k) (sym en) (onward.1 r))),
-  )
-
-pub unguarded_answered : (ds : List Definition) (c : Name) (g : List (List ℕ)) (n : ℕ) (b : Bool) → g ≡ graph_of unguarded_calls ds → n ≡ place_of (definitions_of ds) c
-    → (IsTrue b ↔ Path g n n) → IsTrue b ↔ Reaches unguarded_calls (definitions_of ds) c c
-unguarded_answered ds c = answered unguarded_calls ds c (unguarded_cycle ds c)
-
-pub calls_answered : (ds : List Definition) (c : Name) (g : List (List ℕ)) (n : ℕ) (b : Bool) → g ≡ graph_of calls ds → n ≡ place_of (definitions_of ds) c
-    → (IsTrue b ↔ Path g n n) → IsTrue b ↔ Reaches calls (definitions_of ds) c c
-calls_answered ds c = answered calls ds c (call_cycle ds c)
+-- ---- For the code: whether a definition's place is on a cycle of the graph says whether it reaches itself
+pub answered : (behind : Bool) (ds : List Definition) (c : Name) (g : List (List ℕ)) (n : ℕ) (b : Bool) → g ≡ graph_of (called behind) ds
+    → n ≡ place_of (definitions_of ds) c → (IsTrue b ↔ Path g n n) → IsTrue b ↔ Reaches (called behind) (definitions_of ds) c c
+answered behind ds c g n b eg en h =
+    let onward = cycle (called behind) refl ds c in
+    let graph : List (List ℕ) = graph_of (called behind) ds in (
+      λ t. onward.0 (subst (λ (k : ℕ). Path graph k k) en (subst (λ (x : List (List ℕ)). Path x n n) eg (h.0 t))),
+      λ r. h.1 (subst (λ (x : List (List ℕ)). Path x n n) (sym eg) (subst (λ (k : ℕ). Path graph k k) (sym en) (onward.1 r))),
+    )

@@ -1,6 +1,6 @@
--- Lists of names, and the places of definitions.
+-- The places of definitions, and lists of places.
 use Rattle.std.proofs.Common.{◌≡◌, ◌++◌, ◌||◌, ℕ, suc, Bool, true, false, List, [], ◌∷◌, length, refl, arith, nat_lt, if◌then◌else◌, ◌∙◌, map, append_assoc}
-use Rattle.std.proofs.lemmas.List.{map-append}
+use Rattle.std.proofs.lemmas.List.{map-append, map-id}
 use Prim.Native.Nat.compare
 use Rattle.std.proofs.lemmas.Bool.Decides.{nat_tests}
 use Rattle.std.specs.List.{list_any}
@@ -10,14 +10,10 @@ use Rattle.abc_term.specs.declared.terms.Definition.{Definition}
 use Rattle.abc_term.specs.Standing.{definitions_of}
 use Rattle.abc_term.specs.Guarded.{defines}
 use Rattle.abc_checks.specs.Parts.{place_of}
+use Rattle.abc_term.proofs.Listed.{lists_append}
 
-or-assoc : (a b c : Bool) → (a || (b || c)) ≡ ((a || b) || c)
-or-assoc true b c = refl
-or-assoc false b c = refl
-
-pub lists_append : (xs ys : List Name) (x : Name) → lists (xs ++ ys) x ≡ (lists xs x || lists ys x)
-lists_append [] ys x = refl
-lists_append (z ∷ xs) ys x = rw (lists_append xs ys x) (or-assoc (same_name z x) (lists xs x) (lists ys x))
+-- names of a scope: those of the inputs, one after another
+pub ruleset in_scope = (lists_append, map-id)
 
 lt-suc : (p n : ℕ) → nat_lt (suc p) (suc n) ≡ nat_lt p n
 lt-suc p n = rw compare.suc-suc refl
@@ -34,10 +30,6 @@ pub defines_by_place : (ds : List Definition) (c : Name) → nat_lt (place_of (d
 defines_by_place [] c = refl
 defines_by_place (d ∷ ds) c =
     shifted (same_name d.name c) (defines (definitions_of ds) c) (place_of (definitions_of ds) c) (length ds) (defines_by_place ds c)
-
-pub any_append : {A : Type 0} (p : A → Bool) (xs ys : List A) → list_any p (xs ++ ys) ≡ (list_any p xs || list_any p ys)
-any_append p [] ys = refl
-any_append p (z ∷ xs) ys = rw (any_append p xs ys) (or-assoc (p z) (list_any p xs) (list_any p ys))
 
 pub map_append_on : {A B : Type 0} (f : A → B) (before : List B) (xs ys : List A) → (before ++ map f xs) ++ map f ys ≡ before ++ map f (xs ++ ys)
 map_append_on f before xs ys = rw (append_assoc, map-append) refl

@@ -6,8 +6,8 @@ use Rattle.abc_term.specs.declared.terms.Definition.{Definition}
 use Rattle.abc_term.specs.declared.terms.Component.{Component}
 use Rattle.abc_term.specs.declared.terms.Program.{Program}
 use Rattle.abc_term.specs.Standing.{process_of, definitions_of}
+use Rattle.abc_term.specs.Calls.{calls}
 use Rattle.abc_term.specs.Guarded.{AreGuarded, defines}
-use Rattle.abc_checks.specs.Parts.{calls}
 use Rattle.abc_checks.specs.Measures.{width_of, IsLeastSolution}
 use Rattle.abc_checks.specs.Facts.{IsChecked}
 use Rattle.abc_checks.specs.declared.limits.TheConstants.{WIDEST}

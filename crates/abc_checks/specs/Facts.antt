@@ -8,8 +8,8 @@ use Rattle.abc_term.specs.declared.terms.Program.{Program}
 use Rattle.abc_term.specs.Processes.{Process, Definitions}
 use Rattle.abc_term.specs.Standing.{process_of, definitions_of}
 use Rattle.abc_term.specs.Guarded.{defines}
-use Rattle.abc_checks.specs.Parts.{repeats, repeats_variable, calls, unguarded_calls}
-use Rattle.abc_checks.specs.Reaching.{Reaches, holds_par}
+use Rattle.abc_term.specs.Calls.{calls, unguarded_calls, Reaches}
+use Rattle.abc_checks.specs.Parts.{repeats, repeats_variable, holds_par}
 use Rattle.abc_checks.specs.Variables.{process_open}
 use Rattle.abc_checks.specs.Sites.{AtSite, ComesBefore}
 use Rattle.abc_checks.specs.Measures.{IsTooWide, HasTooManyMoves}

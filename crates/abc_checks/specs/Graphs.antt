@@ -1,11 +1,19 @@
 -- The calls of definitions as arrows between their numbers, and a search along them. The facts of the checks are not stated by these, but the code is.
-use Rattle.std.specs.Prelude.{◌≡◌, ◌⊎◌, ◌<◌, ℕ, ◌++◌, Bool, true, List, [], ◌∷◌, length, map, slice_index_or, slice_set, if◌then◌else◌}
+use Rattle.std.specs.Prelude.{◌≡◌, ◌⊎◌, ◌↔◌, ◌<◌, ℕ, ◌++◌, Bool, true, false, IsTrue, List, [], ◌∷◌, Some, length, map, slice_get, slice_index_or, slice_set, if◌then◌else◌}
 use Rattle.abc_pred.specs.declared.names.Name.{Name}
 use Rattle.abc_term.specs.Processes.{Process}
 use Rattle.abc_term.specs.declared.terms.Definition.{Definition}
 use Rattle.abc_term.specs.Standing.{process_of, definitions_of}
+use Rattle.abc_term.specs.Calls.{Reaches}
 use Rattle.abc_checks.specs.Parts.{place_of}
+use Rattle.abc_checks.specs.declared.calls.Calls.{Calls}
+use Rattle.abc_checks.specs.declared.calls.Calls.TheVariants.{All, Unguarded}
 use Rattle.abc_checks.specs.declared.search.Search as held
+
+-- The calls that count: whether those behind an action do.
+abbrev pub counts_behind : Calls → Bool
+counts_behind All = true
+counts_behind Unguarded = false
 
 -- For each definition the places of the names that it calls; a name without definition has a place past the last.
 abbrev pub graph_of : (Process → List Name) → List Definition → List (List ℕ)
@@ -23,6 +31,15 @@ Arrow g i j = (j < length g) × Member j (slice_index_or g i [])
 pub data Path (g : List (List ℕ)) : ℕ → ℕ → Type 0 where
   arrow : {i j : ℕ} → Arrow g i j → Path g i j
   arrows : {i j k : ℕ} → Arrow g i j → Path g j k → Path g i k
+
+-- The table says of each of the first items whether a fact holds of it.
+pub record Says {A : Type 0} (Holds : A → Type 0) (items : List A) (count : ℕ) (table : List Bool) : Type 0 where
+  pub size : length table ≡ count
+  pub right : (i : ℕ) (x : A) → i < count → slice_get items i ≡ Some x → IsTrue (slice_index_or table i false) ↔ Holds x
+
+-- Of each definition, whether it reaches itself.
+abbrev pub SaysWhoCycles : (Process → List Name) → List Definition → List Bool → Type 0
+SaysWhoCycles called_by ds table = Says (λ d. Reaches called_by (definitions_of ds) d.name d.name) ds (length ds) table
 
 -- A search: which nodes are marked, and the marked ones whose arrows were not followed yet.
 pub record Search : Type 0 where

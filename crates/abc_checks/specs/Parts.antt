@@ -1,8 +1,9 @@
--- What stands in a process: the variables of its inputs and the names that it calls.
-use Rattle.std.specs.Prelude.{ℕ, suc, ◌++◌, ◌||◌, Bool, false, List, [], ◌∷◌, if◌then◌else◌}
+-- What stands in a process: names that stand twice, `|`, and the places of the definitions that it calls.
+use Rattle.std.specs.Prelude.{ℕ, suc, ◌||◌, Bool, true, false, List, [], ◌∷◌, if◌then◌else◌}
 use Rattle.abc_pred.specs.declared.names.Name.{Name}
 use Rattle.abc_pred.specs.Maps.{lists, same_name}
 use Rattle.abc_term.specs.Processes.{Process, Nil, Output, Input, When, Choice, Par, Call, Definitions}
+pub use Rattle.abc_term.specs.Calls.{calls, unguarded_calls}
 
 -- A name stands twice in the list.
 abbrev pub repeats : List Name → Bool
@@ -19,25 +20,15 @@ repeats_variable (Choice P Q) = repeats_variable P || repeats_variable Q
 repeats_variable (Par P Q) = repeats_variable P || repeats_variable Q
 repeats_variable (Call c) = false
 
--- The names that the process calls, from the left.
-abbrev pub calls : Process → List Name
-calls Nil = []
-calls (Output es p us P) = calls P
-calls (Input p xs us P) = calls P
-calls (When g P) = calls P
-calls (Choice P Q) = calls P ++ calls Q
-calls (Par P Q) = calls P ++ calls Q
-calls (Call c) = c ∷ []
-
--- Those that it calls with no action before the call.
-abbrev pub unguarded_calls : Process → List Name
-unguarded_calls Nil = []
-unguarded_calls (Output es p us P) = []
-unguarded_calls (Input p xs us P) = []
-unguarded_calls (When g P) = unguarded_calls P
-unguarded_calls (Choice P Q) = unguarded_calls P ++ unguarded_calls Q
-unguarded_calls (Par P Q) = unguarded_calls P ++ unguarded_calls Q
-unguarded_calls (Call c) = c ∷ []
+-- The process holds `|` anywhere.
+abbrev pub holds_par : Process → Bool
+holds_par Nil = false
+holds_par (Output es p us P) = holds_par P
+holds_par (Input p xs us P) = holds_par P
+holds_par (When g P) = holds_par P
+holds_par (Choice P Q) = holds_par P || holds_par Q
+holds_par (Par P Q) = true
+holds_par (Call c) = false
 
 -- The number of the first definition of a name; that of all definitions where none has it.
 abbrev pub place_of : Definitions → Name → ℕ

@@ -1,13 +1,20 @@
-ghost use Rattle.std.specs.Prelude.{◌≡◌, ◌++◌, map, IfOk, OnOk, MatchBool};
+ghost use Rattle.std.specs.Prelude.{◌≡◌, ◌++◌, map, IfOk, OnOk};
+ghost use Rattle.abc_term.specs.Calls.{called};
 ghost use Rattle.abc_term.specs.Standing.{process_of, definitions_of};
-ghost use Rattle.abc_checks.specs.Parts.{place_of, calls, unguarded_calls};
-ghost use Rattle.abc_checks.specs.Graphs.{graph_of};
-ghost use Rattle.abc_checks.specs.Reaching.{holds_par};
+ghost use Rattle.abc_checks.specs.Parts.{place_of, holds_par};
+ghost use Rattle.abc_checks.specs.Graphs.{counts_behind, graph_of};
 
 use crate::places::Places;
 use abc_term::Process;
 use abc_value::{List, NoMemory};
 use std::alloc::Global;
+
+/// Which calls of a process count: all of them, or those with no action before the call.
+#[derive(Clone, Copy, Drop)]
+pub enum Calls {
+    All,
+    Unguarded,
+}
 
 /// Whether the process holds `|` anywhere.
 pub fn holds_par(process: &Process) -> bool
@@ -25,70 +32,42 @@ pub fn holds_par(process: &Process) -> bool
 /// Appends the places of the names that the process calls.
 #[tactic(auto, using(crate::proofs::NamesMet::map_append_on))]
 fn append_calls(
+    counted: Calls,
     places: &Places<'_>,
     process: &Process,
-    called: &mut List<usize>,
+    arrows: &mut List<usize>,
 ) -> Result<(), NoMemory>
-    ensures { OnOk result (called.new ≡ called.old ++ map (place_of (definitions_of places.now.program.now.definitions)) (calls (process_of process.now))) }
+    ensures { OnOk result (arrows.new ≡ arrows.old ++ map (place_of (definitions_of places.now.program.now.definitions)) (called (counts_behind counted) (process_of process.now))) }
 {
     match process {
         Process::Nil => Ok(()),
-        Process::Output(_, _, after) | Process::Input(_, _, after) => {
-            append_calls(places, &after.then, called)
-        }
-        Process::When(_, then) => append_calls(places, then, called),
+        Process::Output(_, _, after) | Process::Input(_, _, after) => match counted {
+            Calls::All => append_calls(counted, places, &after.then, arrows),
+            Calls::Unguarded => Ok(()),
+        },
+        Process::When(_, then) => append_calls(counted, places, then, arrows),
         Process::Choice(left, right) | Process::Par(left, right) => {
-            append_calls(places, left, called)?;
-            append_calls(places, right, called)?;
+            append_calls(counted, places, left, arrows)?;
+            append_calls(counted, places, right, arrows)?;
             Ok(())
         }
-        Process::Call(name) => called.push(places.place(*name)),
-    }
-}
-
-/// Appends the places of the names that the process calls with no action before the call.
-#[tactic(auto, using(crate::proofs::NamesMet::map_append_on))]
-fn append_unguarded(
-    places: &Places<'_>,
-    process: &Process,
-    called: &mut List<usize>,
-) -> Result<(), NoMemory>
-    ensures { OnOk result (called.new ≡ called.old ++ map (place_of (definitions_of places.now.program.now.definitions)) (unguarded_calls (process_of process.now))) }
-{
-    match process {
-        Process::Nil | Process::Output(_, _, _) | Process::Input(_, _, _) => Ok(()),
-        Process::When(_, then) => append_unguarded(places, then, called),
-        Process::Choice(left, right) | Process::Par(left, right) => {
-            append_unguarded(places, left, called)?;
-            append_unguarded(places, right, called)?;
-            Ok(())
-        }
-        Process::Call(name) => called.push(places.place(*name)),
+        Process::Call(name) => arrows.push(places.place(*name)),
     }
 }
 
 /// For each definition the places of the names that its body calls.
-pub fn call_graph(alloc: Global, places: &Places<'_>) -> Result<Vec<List<usize>>, NoMemory>
-    ensures { IfOk result (λ g. g.items ≡ graph_of calls places.now.program.now.definitions) }
+pub fn graph(
+    alloc: Global,
+    counted: Calls,
+    places: &Places<'_>,
+) -> Result<Vec<List<usize>>, NoMemory>
+    ensures { IfOk result (λ g. g.items ≡ graph_of (called (counts_behind counted)) places.now.program.now.definitions) }
 {
     let mut graph = Vec::new(alloc);
     for definition in places.program.definitions.as_slice() {
-        let mut called = List::new(alloc);
-        append_calls(places, &definition.body, &mut called)?;
-        graph.push(called)?;
-    }
-    Ok(graph)
-}
-
-/// For each definition the places of the names that its body calls with no action before the call.
-pub fn unguarded_graph(alloc: Global, places: &Places<'_>) -> Result<Vec<List<usize>>, NoMemory>
-    ensures { IfOk result (λ g. g.items ≡ graph_of unguarded_calls places.now.program.now.definitions) }
-{
-    let mut graph = Vec::new(alloc);
-    for definition in places.program.definitions.as_slice() {
-        let mut called = List::new(alloc);
-        append_unguarded(places, &definition.body, &mut called)?;
-        graph.push(called)?;
+        let mut arrows = List::new(alloc);
+        append_calls(counted, places, &definition.body, &mut arrows)?;
+        graph.push(arrows)?;
     }
     Ok(graph)
 }

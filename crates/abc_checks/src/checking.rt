@@ -3,8 +3,9 @@ ghost use Rattle.abc_term.specs.Standing.{definitions_of};
 ghost use Rattle.abc_checks.specs.Sites.{IsFirstSite};
 ghost use Rattle.abc_checks.specs.Facts.{DoubleName, UnknownName, OpenVariable, Unguarded, ParallelCycle, TooWide, TooManyMoves, NoComponent, TooManyComponents, HasFact, IsChecked, IsFirstFact, IsRefusal};
 
-use crate::calls::{call_graph, unguarded_graph};
+use crate::calls::Calls;
 use crate::causes::{CheckRefusal, Site};
+use crate::cycles::find_cycles;
 use crate::limits::MOST_COMPONENTS;
 use crate::measures::{Measure, table};
 use crate::places::Places;
@@ -21,13 +22,9 @@ fn unguarded(alloc: Global, places: &Places<'_>) -> Result<Option<Site>, NoMemor
     requires components { length places.now.program.now.components < 2 ^ 32 }
     ensures { IfOk result (IsFirstSite (Unguarded places.now.program.now)) }
 {
-    let graph = unguarded_graph(alloc, places)?;
-    let fact = cycles::Unguarded {
-        places: &*places,
-        graph: &graph,
-    };
-    let site = first_site(alloc, &fact, places.program)?;
-    Ok(site)
+    let program = places.program;
+    let cycles = find_cycles(alloc, Calls::Unguarded, places)?;
+    Ok(first_site(&cycles::Unguarded(&cycles), program))
 }
 
 /// The first site at which a definition that holds `|` reaches itself.
@@ -36,13 +33,13 @@ fn parallel_cycle(alloc: Global, places: &Places<'_>) -> Result<Option<Site>, No
     requires components { length places.now.program.now.components < 2 ^ 32 }
     ensures { IfOk result (IsFirstSite (ParallelCycle places.now.program.now)) }
 {
-    let graph = call_graph(alloc, places)?;
+    let program = places.program;
+    let cycles = find_cycles(alloc, Calls::All, places)?;
     let fact = cycles::ParallelCycle {
-        places: &*places,
-        graph: &graph,
+        program: &*program,
+        cycles: &cycles,
     };
-    let site = first_site(alloc, &fact, places.program)?;
-    Ok(site)
+    Ok(first_site(&fact, program))
 }
 
 /// The first component that is too wide.
@@ -56,8 +53,7 @@ fn too_wide(alloc: Global, places: &Places<'_>) -> Result<Option<Site>, NoMemory
         places: &*places,
         widths: &widths,
     };
-    let site = first_site(alloc, &fact, places.program)?;
-    Ok(site)
+    Ok(first_site(&fact, places.program))
 }
 
 /// The first site with a process of too many moves.
@@ -71,8 +67,7 @@ fn too_many_moves(alloc: Global, places: &Places<'_>) -> Result<Option<Site>, No
         places: &*places,
         breadths: &breadths,
     };
-    let site = first_site(alloc, &fact, places.program)?;
-    Ok(site)
+    Ok(first_site(&fact, places.program))
 }
 
 /// The whole program, where the test holds of it.
@@ -91,9 +86,9 @@ fn first_of(alloc: Global, cause: CheckCause, places: &Places<'_>) -> Result<Opt
     let program = places.program;
     let count = program.components.len();
     match cause {
-        CheckCause::DoubleName => first_site(alloc, &facts::DoubleName(program), program),
-        CheckCause::UnknownName => first_site(alloc, &facts::UnknownName(&*places), program),
-        CheckCause::OpenVariable => first_site(alloc, &facts::OpenVariable(program), program),
+        CheckCause::DoubleName => Ok(first_site(&facts::DoubleName(program), program)),
+        CheckCause::UnknownName => Ok(first_site(&facts::UnknownName(&*places), program)),
+        CheckCause::OpenVariable => Ok(first_site(&facts::OpenVariable(program), program)),
         CheckCause::Unguarded => unguarded(alloc, places),
         CheckCause::ParallelCycle => parallel_cycle(alloc, places),
         CheckCause::TooWide => too_wide(alloc, places),

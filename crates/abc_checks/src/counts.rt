@@ -9,8 +9,6 @@ use crate::measures::{parts_of, width};
 use crate::places::Places;
 use crate::sites::Fact;
 use abc_term::Process;
-use abc_value::NoMemory;
-use std::alloc::Global;
 
 /// A component has a width above 64. The widths are those of the definitions' bodies.
 #[derive(Drop)]
@@ -33,15 +31,15 @@ impl Fact for TooWide<'_> {
 
     ghost of_component = { λ f i. IsSomeAnd (slice_get f.places.now.program.now.components i) (λ C. IsTooWide (definitions_of f.places.now.program.now.definitions) (process_of C.run)) };
 
-    fn definition_has(&self, _alloc: Global, _at: usize) -> Result<bool, NoMemory> {
-        Ok(false)
+    fn definition_has(&self, _at: usize) -> bool {
+        false
     }
 
-    fn component_has(&self, _alloc: Global, at: usize) -> Result<bool, NoMemory> {
-        Ok(match self.places.program.components.get(at) {
+    fn component_has(&self, at: usize) -> bool {
+        match self.places.program.components.get(at) {
             None => false,
             Some(component) => self.holds_of(&component.run),
-        })
+        }
     }
 }
 
@@ -68,17 +66,17 @@ impl Fact for TooManyMoves<'_> {
 
     ghost of_component = { λ f i. IsSomeAnd (slice_get f.places.now.program.now.components i) (λ C. HasTooManyMoves (definitions_of f.places.now.program.now.definitions) (process_of C.run)) };
 
-    fn definition_has(&self, _alloc: Global, at: usize) -> Result<bool, NoMemory> {
-        Ok(match self.places.program.definitions.get(at) {
+    fn definition_has(&self, at: usize) -> bool {
+        match self.places.program.definitions.get(at) {
             None => false,
             Some(definition) => self.holds_of(&definition.body),
-        })
+        }
     }
 
-    fn component_has(&self, _alloc: Global, at: usize) -> Result<bool, NoMemory> {
-        Ok(match self.places.program.components.get(at) {
+    fn component_has(&self, at: usize) -> bool {
+        match self.places.program.components.get(at) {
             None => false,
             Some(component) => self.holds_of(&component.run),
-        })
+        }
     }
 }

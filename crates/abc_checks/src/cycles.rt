@@ -1,90 +1,95 @@
-ghost use Rattle.std.specs.Prelude.{◌≡◌, ◌↔◌, length, slice_get, IsSomeAnd, IfOk, IsTrue};
+ghost use Rattle.std.specs.Prelude.{◌≡◌, ◌↔◌, false, slice_get, slice_index_or, IsSomeAnd, IfOk, IsTrue};
 ghost use Rattle.abc_term.specs.Standing.{process_of, definitions_of};
-ghost use Rattle.abc_checks.specs.Parts.{calls, unguarded_calls};
-ghost use Rattle.abc_checks.specs.Graphs.{graph_of};
-ghost use Rattle.abc_checks.specs.Reaching.{Reaches, holds_par};
+ghost use Rattle.abc_term.specs.Calls.{called, Reaches};
+ghost use Rattle.abc_checks.specs.Parts.{holds_par};
+ghost use Rattle.abc_checks.specs.Graphs.{counts_behind, graph_of, SaysWhoCycles};
 
-use crate::calls::holds_par;
+use crate::calls::{Calls, graph, holds_par};
 use crate::places::Places;
 use crate::search::reaches_itself;
 use crate::sites::Fact;
-use abc_term::Definition;
+use abc_term::{Definition, Program};
 use abc_value::{List, NoMemory};
 use std::alloc::Global;
 
-/// A definition reaches itself by unguarded calls.
-#[derive(Drop)]
-pub struct Unguarded<'p> {
-    pub places: &'p Places<'p>,
-    pub graph: &'p [List<usize>],
-    ghost same: { graph.now ≡ graph_of unguarded_calls places.now.program.now.definitions },
+/// Whether the definition reaches itself by the calls that count.
+fn cycles_at(
+    alloc: Global,
+    counted: Calls,
+    places: &Places<'_>,
+    graph: &[List<usize>],
+    definition: &Definition,
+) -> Result<bool, NoMemory>
+    requires { graph.now ≡ graph_of (called (counts_behind counted)) places.now.program.now.definitions }
+    ensures { IfOk result (λ b. IsTrue b ↔ Reaches (called (counts_behind counted)) (definitions_of places.now.program.now.definitions) definition.now.name definition.now.name) }
+{
+    let found = reaches_itself(alloc, graph, places.place(definition.name))?;
+    Ok(found)
 }
 
-impl Unguarded<'_> {
-    fn holds_of(&self, alloc: Global, definition: &Definition) -> Result<bool, NoMemory>
-        ensures { IfOk result (λ b. IsTrue b ↔ Reaches unguarded_calls (definitions_of self.now.places.now.program.now.definitions) definition.now.name definition.now.name) }
-    {
-        let found = reaches_itself(alloc, self.graph, self.places.place(definition.name))?;
-        Ok(found)
+/// For each definition whether it reaches itself by the calls that count.
+pub fn find_cycles(
+    alloc: Global,
+    counted: Calls,
+    places: &Places<'_>,
+) -> Result<Vec<bool>, NoMemory>
+    ensures { IfOk result (λ t. SaysWhoCycles (called (counts_behind counted)) places.now.program.now.definitions t.items) }
+{
+    let graph = graph(alloc, counted, places)?;
+    let mut table = Vec::new(alloc);
+    for definition in places.program.definitions.as_slice() {
+        let cycles = cycles_at(alloc, counted, places, &graph, definition)?;
+        table.push(cycles)?;
     }
+    Ok(table)
 }
+
+/// A definition reaches itself by unguarded calls, as the table says.
+#[derive(Drop)]
+pub struct Unguarded<'p>(pub &'p [bool]);
 
 impl Fact for Unguarded<'_> {
-    ghost of_definition = { λ f i. IsSomeAnd (slice_get f.places.now.program.now.definitions i) (λ d. Reaches unguarded_calls (definitions_of f.places.now.program.now.definitions) d.name d.name) };
+    ghost of_definition = { λ f i. IsTrue (slice_index_or f.0.now i false) };
 
     ghost of_component = { λ f i. ⊥ };
 
-    fn definition_has(&self, alloc: Global, at: usize) -> Result<bool, NoMemory> {
-        match self.places.program.definitions.get(at) {
-            None => Ok(false),
-            Some(definition) => self.holds_of(alloc, definition),
+    fn definition_has(&self, at: usize) -> bool {
+        match self.0.get(at) {
+            None => false,
+            Some(cycles) => *cycles,
         }
     }
 
-    fn component_has(&self, _alloc: Global, _at: usize) -> Result<bool, NoMemory> {
-        Ok(false)
+    fn component_has(&self, _at: usize) -> bool {
+        false
     }
 }
 
-/// A definition reaches itself by calls, and its body holds `|`.
+/// A definition reaches itself by calls, as the table says, and its body holds `|`.
 #[derive(Drop)]
 pub struct ParallelCycle<'p> {
-    pub places: &'p Places<'p>,
-    pub graph: &'p [List<usize>],
-    ghost same: { graph.now ≡ graph_of calls places.now.program.now.definitions },
-}
-
-impl ParallelCycle<'_> {
-    fn is_on_cycle(&self, alloc: Global, definition: &Definition) -> Result<bool, NoMemory>
-        ensures { IfOk result (λ b. IsTrue b ↔ Reaches calls (definitions_of self.now.places.now.program.now.definitions) definition.now.name definition.now.name) }
-    {
-        let found = reaches_itself(alloc, self.graph, self.places.place(definition.name))?;
-        Ok(found)
-    }
-
-    fn holds_of(&self, alloc: Global, definition: &Definition) -> Result<bool, NoMemory>
-        ensures { IfOk result (λ b. IsTrue b ↔ (IsTrue (holds_par (process_of definition.now.body)) × Reaches calls (definitions_of self.now.places.now.program.now.definitions) definition.now.name definition.now.name)) }
-    {
-        if !holds_par(&definition.body) {
-            return Ok(false);
-        }
-        self.is_on_cycle(alloc, definition)
-    }
+    pub program: &'p Program,
+    pub cycles: &'p [bool],
 }
 
 impl Fact for ParallelCycle<'_> {
-    ghost of_definition = { λ f i. IsSomeAnd (slice_get f.places.now.program.now.definitions i) (λ d. IsTrue (holds_par (process_of d.body)) × Reaches calls (definitions_of f.places.now.program.now.definitions) d.name d.name) };
+    ghost of_definition = { λ f i. IsTrue (slice_index_or f.cycles.now i false) × IsSomeAnd (slice_get f.program.now.definitions i) (λ d. IsTrue (holds_par (process_of d.body))) };
 
     ghost of_component = { λ f i. ⊥ };
 
-    fn definition_has(&self, alloc: Global, at: usize) -> Result<bool, NoMemory> {
-        match self.places.program.definitions.get(at) {
-            None => Ok(false),
-            Some(definition) => self.holds_of(alloc, definition),
-        }
+    fn definition_has(&self, at: usize) -> bool {
+        let cycles = match self.cycles.get(at) {
+            None => false,
+            Some(cycles) => *cycles,
+        };
+        let parallel = match self.program.definitions.get(at) {
+            None => false,
+            Some(definition) => holds_par(&definition.body),
+        };
+        cycles && parallel
     }
 
-    fn component_has(&self, _alloc: Global, _at: usize) -> Result<bool, NoMemory> {
-        Ok(false)
+    fn component_has(&self, _at: usize) -> bool {
+        false
     }
 }

@@ -4,51 +4,25 @@ ghost use Rattle.abc_term.specs.Standing.{process_of, definitions_of};
 ghost use Rattle.abc_checks.specs.Variables.{process_open};
 ghost use Rattle.abc_checks.specs.Facts.{Has, definition_doubles, component_doubles, calls_unknown};
 
-use crate::parts::{repeats, repeats_attribute, repeats_variable};
+use crate::names::{lists, repeats};
+use crate::parts::repeats_variable;
 use crate::places::Places;
 use crate::sites::Fact;
 use crate::unknown::calls_unknown;
 use crate::variables::{Scope, process_open};
-use abc_pred::Name;
 use abc_term::{Component, Definition, Program};
-use abc_value::NoMemory;
-use std::alloc::Global;
-
-/// Whether one of these definitions has the name.
-fn definitions_list(definitions: &[Definition], name: Name) -> bool
-    ensures { result ≡ lists (map (λ d. d.name) definitions.now) name }
-{
-    for definition in definitions {
-        if definition.name == name {
-            return true;
-        }
-    }
-    false
-}
-
-/// Whether one of these components has the name.
-fn components_list(components: &[Component], name: Name) -> bool
-    ensures { result ≡ lists (map (λ C. C.name) components.now) name }
-{
-    for component in components {
-        if component.name == name {
-            return true;
-        }
-    }
-    false
-}
 
 fn definition_doubles(earlier: &[Definition], definition: &Definition) -> bool
     ensures { result ≡ definition_doubles earlier.now definition.now }
 {
-    definitions_list(earlier, definition.name) || repeats_variable(&definition.body)
+    lists(earlier, definition.name) || repeats_variable(&definition.body)
 }
 
 fn component_doubles(earlier: &[Component], component: &Component) -> bool
     ensures { result ≡ component_doubles earlier.now component.now }
 {
-    components_list(earlier, component.name)
-        || repeats_attribute(component.initial.as_slice())
+    lists(earlier, component.name)
+        || repeats(component.initial.as_slice())
         || repeats(component.show.as_slice())
         || repeats_variable(&component.run)
 }
@@ -62,20 +36,20 @@ impl Fact for DoubleName<'_> {
 
     ghost of_component = { λ f i. Has (component_doubles (take i f.0.now.components)) f.0.now.components i };
 
-    fn definition_has(&self, _alloc: Global, at: usize) -> Result<bool, NoMemory> {
+    fn definition_has(&self, at: usize) -> bool {
         let definitions = self.0.definitions.as_slice();
-        Ok(match definitions.get(at) {
+        match definitions.get(at) {
             None => false,
             Some(definition) => definition_doubles(&definitions[..at], definition),
-        })
+        }
     }
 
-    fn component_has(&self, _alloc: Global, at: usize) -> Result<bool, NoMemory> {
+    fn component_has(&self, at: usize) -> bool {
         let components = self.0.components.as_slice();
-        Ok(match components.get(at) {
+        match components.get(at) {
             None => false,
             Some(component) => component_doubles(&components[..at], component),
-        })
+        }
     }
 }
 
@@ -88,18 +62,18 @@ impl Fact for UnknownName<'_> {
 
     ghost of_component = { λ f. Has (λ C. calls_unknown (definitions_of f.0.now.program.now.definitions) (process_of C.run)) f.0.now.program.now.components };
 
-    fn definition_has(&self, _alloc: Global, at: usize) -> Result<bool, NoMemory> {
-        Ok(match self.0.program.definitions.get(at) {
+    fn definition_has(&self, at: usize) -> bool {
+        match self.0.program.definitions.get(at) {
             None => false,
             Some(definition) => calls_unknown(self.0, &definition.body),
-        })
+        }
     }
 
-    fn component_has(&self, _alloc: Global, at: usize) -> Result<bool, NoMemory> {
-        Ok(match self.0.program.components.get(at) {
+    fn component_has(&self, at: usize) -> bool {
+        match self.0.program.components.get(at) {
             None => false,
             Some(component) => calls_unknown(self.0, &component.run),
-        })
+        }
     }
 }
 
@@ -112,17 +86,17 @@ impl Fact for OpenVariable<'_> {
 
     ghost of_component = { λ f. Has (λ C. process_open [] (process_of C.run)) f.0.now.components };
 
-    fn definition_has(&self, _alloc: Global, at: usize) -> Result<bool, NoMemory> {
-        Ok(match self.0.definitions.get(at) {
+    fn definition_has(&self, at: usize) -> bool {
+        match self.0.definitions.get(at) {
             None => false,
             Some(definition) => process_open(&Scope::Outside, &definition.body),
-        })
+        }
     }
 
-    fn component_has(&self, _alloc: Global, at: usize) -> Result<bool, NoMemory> {
-        Ok(match self.0.components.get(at) {
+    fn component_has(&self, at: usize) -> bool {
+        match self.0.components.get(at) {
             None => false,
             Some(component) => process_open(&Scope::Outside, &component.run),
-        })
+        }
     }
 }

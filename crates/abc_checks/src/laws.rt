@@ -1,6 +1,17 @@
-//! What a checked program gives: each function's contract is a law, and its body does nothing.
+//! What a checked program gives, and the limits as numbers: each function's contract is a law, and its
+//! body does nothing.
 
+ghost use Rattle.std.specs.Prelude.{◌≡◌};
 ghost use Rattle.abc_checks.specs.CheckedLaws.{CallsHaveBodies, CheckedCallsEnd, WidthsAreSmall};
+
+use crate::limits::{BROADEST, MOST_COMPONENTS, WIDEST};
+
+/// The limits that the facts of the checks speak of: 256 components, a width of 64 and a breadth of 2,048.
+pub fn limits_are_these()
+    ensures components { MOST_COMPONENTS ≡ 256 }
+    ensures width { WIDEST ≡ 64 }
+    ensures breadth { BROADEST ≡ 2048 }
+{}
 
 /// Every call of a checked program has a body.
 pub fn calls_have_bodies()

@@ -10,6 +10,7 @@ mod facts;
 mod laws;
 mod limits;
 mod measures;
+mod names;
 mod parts;
 mod places;
 mod search;
@@ -20,7 +21,7 @@ mod variables;
 pub use abc_cause::CheckCause;
 pub use causes::{CheckRefusal, Site};
 pub use checking::check;
-pub use laws::{calls_have_bodies, checked_calls_end, widths_are_small};
+pub use laws::{calls_have_bodies, checked_calls_end, limits_are_these, widths_are_small};
 pub use limits::{BROADEST, MOST_COMPONENTS, WIDEST};
 
 #[cfg(test)]

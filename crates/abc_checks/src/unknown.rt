@@ -6,7 +6,6 @@ use crate::places::Places;
 use abc_term::Process;
 
 /// Whether the process calls a name that no definition has.
-#[tactic(auto, using(crate::proofs::NamesMet::any_append))]
 pub fn calls_unknown(places: &Places<'_>, process: &Process) -> bool
     ensures { result ≡ calls_unknown (definitions_of places.now.program.now.definitions) (process_of process.now) }
 {

@@ -6,7 +6,7 @@ ghost use Rattle.abc_term.specs.Standing.{process_of, exprs_of, updates_of};
 ghost use Rattle.abc_checks.specs.Variables.{operand_open, expr_open, pred_open, exprs_open, updates_open, process_open};
 ghost use Rattle.abc_checks.specs.Scopes.{bound_in};
 
-use crate::parts::lists;
+use crate::names::lists;
 use abc_pred::{Expr, Name, Operand, Pred};
 use abc_term::{Process, Update};
 
@@ -18,7 +18,7 @@ pub enum Scope<'a> {
 }
 
 /// Whether the name is one of the scope's variables.
-#[tactic(auto, using(crate::proofs::NamesMet::lists_append))]
+#[tactic(auto, using(crate::proofs::NamesMet::in_scope))]
 fn binds(scope: &Scope<'_>, name: Name) -> bool
     ensures { result ≡ lists (bound_in scope.now) name }
 {

@@ -11,47 +11,8 @@ use Rattle.abc_term.specs.Standing.{process_of, definitions_of}
 use Rattle.abc_term.specs.Speaking.{Label, Says, CallSays, call_outs}
 use Rattle.abc_term.specs.Hearing.{Takes, CallTakes, call_ins}
 use Rattle.abc_term.proofs.Bindings.{putting_twice, putting_nothing}
-use Rattle.abc_checks.proofs.CallPaths.{pick}
+use Rattle.abc_term.proofs.Bodies.{BodyOf, body_found}
 use Rattle.abc_sound.specs.Built.{IsPart, itself, after_output, after_input, guarded, left_choice, right_choice, left_side, right_side, IsPartOf, of_definition, of_component, IsBuilt, leaf, beside}
-
--- ---- The body of a name is that of a definition, or 0
-
-pub record BodyOf (ds : List Definition) (c : Name) : Type 0 where
-  pub number : ℕ
-  pub definition : Definition
-  pub at : slice_get ds number ≡ Some definition
-  pub body : body_of (definitions_of ds) c ≡ process_of definition.body
-
-here : (ds : List Definition) (d : Definition) (c : Name) → same_name d.name c ≡ true → BodyOf (d ∷ ds) c
-here ds d c e = record {
-  number = 0;
-  definition = d;
-  at = refl;
-  body = ap (λ (b : Bool). if b then process_of d.body else body_of (definitions_of ds) c) e;
-}
-
-skipped : (ds : List Definition) (d : Definition) (c : Name) → same_name d.name c ≡ false → body_of (definitions_of (d ∷ ds)) c ≡ body_of (definitions_of ds) c
-skipped ds d c e = ap (λ (b : Bool). if b then process_of d.body else body_of (definitions_of ds) c) e
-
-further : (ds : List Definition) (d : Definition) (c : Name) → same_name d.name c ≡ false → BodyOf ds c → BodyOf (d ∷ ds) c
-further ds d c e n = record {
-  number = suc n.number;
-  definition = n.definition;
-  at = n.at;
-  body = skipped ds d c e ∙ n.body;
-}
-
-pub body_found : (ds : List Definition) (c : Name) → (body_of (definitions_of ds) c ≡ Nil) ⊎ BodyOf ds c
-body_found [] c = inl refl
-body_found (d ∷ ds) c =
-    elim (pick (same_name d.name c)) [
-      | inl e ↦ inr (here ds d c e)
-      | inr e ↦
-          elim (body_found ds c) [
-            | inl nil ↦ inl (skipped ds d c e ∙ nil)
-            | inr found ↦ inr (further ds d c e found)
-          ]
-    ]
 
 module _ (p : Program) where
   inward : {P Q : Process} → ((whole : Process) → IsPart whole P → IsPart whole Q) → IsPartOf p P → IsPartOf p Q

@@ -1,5 +1,7 @@
 -- A process without open variables stays so as it moves.
 use Rattle.std.proofs.Common.{◌≡◌, ◌⊎◌, ◌||◌, ◌&&◌, ◌==◌, ℕ, zero, suc, Bool, true, false, not, IsTrue, List, [], ◌∷◌, ◌++◌, length, map, refl, sym, ◌∙◌, ap, subst, inl, inr, arith, slice_get, Option, Some, if◌then◌else◌}
+use Rattle.std.proofs.lemmas.Bool.{cases_Bool, or_cases, or_left, or_right, or_from, false≢true, not_from_true, not-false}
+use Rattle.std.proofs.lemmas.Option.{slice_get_within}
 use Rattle.std.specs.Prelude.{IsSomeAnd}
 use Rattle.std.specs.List.{list_any, zip}
 use Rattle.std.proofs.lemmas.Bool.Decides.{nat_tests}
@@ -19,20 +21,10 @@ use Rattle.abc_checks.specs.Variables.{operand_open, expr_open, pred_open, updat
 use Rattle.abc_checks.specs.Facts.{IsChecked}
 use Rattle.abc_cause.specs.declared.CheckCause.TheVariants as cause
 use Rattle.abc_checks.specs.declared.causes.Site.TheVariants as site
-use Rattle.abc_checks.proofs.NamesMet.{lists_append}
-use Rattle.abc_checks.proofs.CallPaths.{pick, either, from_left, from_right, false_not_true, one_name}
-use Rattle.abc_sound.proofs.Short.{neither_left, neither_right, inside}
-use Rattle.abc_sound.proofs.Building.{body_found}
-
-neither : (a b : Bool) → a ≡ false → b ≡ false → (a || b) ≡ false
-neither a b ha hb = (λ i. ha i || hb i)
-
-not_true : (b : Bool) → b ≡ true → not b ≡ false
-not_true b h = ap not h
-
-is_true : (b : Bool) → not b ≡ false → b ≡ true
-is_true true h = refl
-is_true false h = sym h
+use Rattle.abc_pred.proofs.Shown.{same_name-eq}
+use Rattle.abc_term.proofs.Listed.{lists_append}
+use Rattle.abc_term.proofs.Bodies.{body_found}
+use Rattle.abc_sound.proofs.Short.{neither_left, neither_right}
 
 abbrev names : Values → List Name
 names bs = map (λ b. b.0) bs
@@ -42,9 +34,9 @@ abbrev Covers : List Name → List Name → Values → Type 0
 Covers outer inner bs = (x : Name) → lists outer x ≡ true → (lists inner x ≡ true) ⊎ (lists (names bs) x ≡ true)
 
 variable_closed : (inner : List Name) (bs : Values) (x : Name) → (lists inner x ≡ true) ⊎ (lists (names bs) x ≡ true) → operand_open inner (put_variable bs x) ≡ false
-variable_closed inner [] x h = elim h [ inl e ↦ not_true (lists inner x) e | inr n ↦ false_not_true n ]
+variable_closed inner [] x h = elim h [ inl e ↦ not_from_true (lists inner x) e | inr n ↦ absurd (false≢true n) ]
 variable_closed inner (b ∷ bs) x h =
-    elim (pick (same_name b.0 x)) [
+    elim (cases_Bool (same_name b.0 x)) [
       | inl e ↦ ap (λ s. operand_open inner (if s then Literal b.1 else put_variable bs x)) e
       | inr e ↦
           let rest : (lists inner x ≡ true) ⊎ (lists (names bs) x ≡ true) =
@@ -60,67 +52,67 @@ module _ (outer inner : List Name) (bs : Values) (covers : Covers outer inner bs
   operand_closed (Literal v) h = refl
   operand_closed (Attr a) h = refl
   operand_closed (This a) h = refl
-  operand_closed (Var x) h = variable_closed inner bs x (covers x (is_true (lists outer x) h))
-  operand_closed (Add l r) h = neither _ _ (operand_closed l (neither_left _ _ h)) (operand_closed r (neither_right (operand_open outer l) _ h))
-  operand_closed (Sub l r) h = neither _ _ (operand_closed l (neither_left _ _ h)) (operand_closed r (neither_right (operand_open outer l) _ h))
-  operand_closed (Mul l r) h = neither _ _ (operand_closed l (neither_left _ _ h)) (operand_closed r (neither_right (operand_open outer l) _ h))
+  operand_closed (Var x) h = variable_closed inner bs x (covers x (not-false (lists outer x) h))
+  operand_closed (Add l r) h = or_from _ _ (operand_closed l (neither_left _ _ h)) (operand_closed r (neither_right (operand_open outer l) _ h))
+  operand_closed (Sub l r) h = or_from _ _ (operand_closed l (neither_left _ _ h)) (operand_closed r (neither_right (operand_open outer l) _ h))
+  operand_closed (Mul l r) h = or_from _ _ (operand_closed l (neither_left _ _ h)) (operand_closed r (neither_right (operand_open outer l) _ h))
   operand_closed (Size o) h = operand_closed o h
   operand_closed (Free o) h = operand_closed o h
 
   operands_closed : (os : List Operand) → list_any (operand_open outer) os ≡ false → list_any (operand_open inner) (map (put_operand bs) os) ≡ false
   operands_closed [] h = refl
-  operands_closed (o ∷ os) h = neither _ _ (operand_closed o (neither_left _ _ h)) (operands_closed os (neither_right (operand_open outer o) _ h))
+  operands_closed (o ∷ os) h = or_from _ _ (operand_closed o (neither_left _ _ h)) (operands_closed os (neither_right (operand_open outer o) _ h))
 
   expr_closed : (e : Expr) → expr_open outer e ≡ false → expr_open inner (put_expr bs e) ≡ false
   expr_closed (Plain o) h = operand_closed o h
   expr_closed (SetOf os) h = operands_closed os h
-  expr_closed (Union l r) h = neither _ _ (expr_closed l (neither_left _ _ h)) (expr_closed r (neither_right (expr_open outer l) _ h))
-  expr_closed (Without l r) h = neither _ _ (expr_closed l (neither_left _ _ h)) (expr_closed r (neither_right (expr_open outer l) _ h))
+  expr_closed (Union l r) h = or_from _ _ (expr_closed l (neither_left _ _ h)) (expr_closed r (neither_right (expr_open outer l) _ h))
+  expr_closed (Without l r) h = or_from _ _ (expr_closed l (neither_left _ _ h)) (expr_closed r (neither_right (expr_open outer l) _ h))
 
   exprs_closed : (es : List Expr) → exprs_open outer es ≡ false → exprs_open inner (map (put_expr bs) es) ≡ false
   exprs_closed [] h = refl
-  exprs_closed (e ∷ es) h = neither _ _ (expr_closed e (neither_left _ _ h)) (exprs_closed es (neither_right (expr_open outer e) _ h))
+  exprs_closed (e ∷ es) h = or_from _ _ (expr_closed e (neither_left _ _ h)) (exprs_closed es (neither_right (expr_open outer e) _ h))
 
   updates_closed : (us : List Update) → updates_open outer us ≡ false → updates_open inner (put_updates bs us) ≡ false
   updates_closed [] h = refl
-  updates_closed (u ∷ us) h = neither _ _ (expr_closed u.1 (neither_left _ _ h)) (updates_closed us (neither_right (expr_open outer u.1) _ h))
+  updates_closed (u ∷ us) h = or_from _ _ (expr_closed u.1 (neither_left _ _ h)) (updates_closed us (neither_right (expr_open outer u.1) _ h))
 
   pred_closed : (p : Pred) → pred_open outer p ≡ false → pred_open inner (put_pred bs p) ≡ false
   pred_closed True h = refl
   pred_closed False h = refl
-  pred_closed (Same l r) h = neither _ _ (operand_closed l (neither_left _ _ h)) (operand_closed r (neither_right (operand_open outer l) _ h))
-  pred_closed (Less l r) h = neither _ _ (operand_closed l (neither_left _ _ h)) (operand_closed r (neither_right (operand_open outer l) _ h))
-  pred_closed (Member l r) h = neither _ _ (operand_closed l (neither_left _ _ h)) (operand_closed r (neither_right (operand_open outer l) _ h))
+  pred_closed (Same l r) h = or_from _ _ (operand_closed l (neither_left _ _ h)) (operand_closed r (neither_right (operand_open outer l) _ h))
+  pred_closed (Less l r) h = or_from _ _ (operand_closed l (neither_left _ _ h)) (operand_closed r (neither_right (operand_open outer l) _ h))
+  pred_closed (Member l r) h = or_from _ _ (operand_closed l (neither_left _ _ h)) (operand_closed r (neither_right (operand_open outer l) _ h))
   pred_closed (Not p) h = pred_closed p h
-  pred_closed (And p q) h = neither _ _ (pred_closed p (neither_left _ _ h)) (pred_closed q (neither_right (pred_open outer p) _ h))
-  pred_closed (Or p q) h = neither _ _ (pred_closed p (neither_left _ _ h)) (pred_closed q (neither_right (pred_open outer p) _ h))
+  pred_closed (And p q) h = or_from _ _ (pred_closed p (neither_left _ _ h)) (pred_closed q (neither_right (pred_open outer p) _ h))
+  pred_closed (Or p q) h = or_from _ _ (pred_closed p (neither_left _ _ h)) (pred_closed q (neither_right (pred_open outer p) _ h))
 
 -- ---- Inside an input
 kept : (xs : List Name) (b : Name × Value) (bs : Values) (x : Name) → lists (names bs) x ≡ true → lists (names (if not (lists xs b.0) then b ∷ bs else bs)) x ≡ true
 kept xs b bs x h =
     elim (lists xs b.0) as (λ s. lists (names (if not s then b ∷ bs else bs)) x ≡ true) [
       | true ↦ h
-      | false ↦ from_right (same_name b.0 x) (lists (names bs) x) h
+      | false ↦ or_right (same_name b.0 x) (lists (names bs) x) h
     ]
 
 in_outside : (xs : List Name) (bs : Values) (x : Name) → lists xs x ≡ false → lists (names bs) x ≡ true → lists (names (outside xs bs)) x ≡ true
 in_outside xs [] x out h = h
 in_outside xs (b ∷ bs) x out h =
-    elim (either (same_name b.0 x) (lists (names bs) x) h) [
+    elim (or_cases (same_name b.0 x) (lists (names bs) x) h) [
       | inl e ↦
-          let stays : lists xs b.0 ≡ false = ap (lists xs) (one_name b.0 x e) ∙ out in
-          subst (λ s. lists (names (if not s then b ∷ outside xs bs else outside xs bs)) x ≡ true) (sym stays) (from_left (same_name b.0 x) (lists (names (outside xs bs)) x) e)
+          let stays : lists xs b.0 ≡ false = ap (lists xs) (same_name-eq b.0 x e) ∙ out in
+          subst (λ s. lists (names (if not s then b ∷ outside xs bs else outside xs bs)) x ≡ true) (sym stays) (or_left (same_name b.0 x) (lists (names (outside xs bs)) x) e)
       | inr more ↦ kept xs b (outside xs bs) x (in_outside xs bs x out more)
     ]
 
 covers_inside : (xs outer inner : List Name) (bs : Values) → Covers outer inner bs → Covers (xs ++ outer) (xs ++ inner) (outside xs bs)
 covers_inside xs outer inner bs covers x h =
-    elim (pick (lists xs x)) [
-      | inl own ↦ inl (lists_append xs inner x ∙ from_left (lists xs x) (lists inner x) own)
+    elim (cases_Bool (lists xs x)) [
+      | inl own ↦ inl (lists_append xs inner x ∙ or_left (lists xs x) (lists inner x) own)
       | inr out ↦
           let outer_has : lists outer x ≡ true = sym (ap (λ s. s || lists outer x) out) ∙ sym (lists_append xs outer x) ∙ h in
           elim (covers x outer_has) [
-            | inl l ↦ inl (lists_append xs inner x ∙ from_right (lists xs x) (lists inner x) l)
+            | inl l ↦ inl (lists_append xs inner x ∙ or_right (lists xs x) (lists inner x) l)
             | inr n ↦ inr (in_outside xs bs x out n)
           ]
     ]
@@ -134,8 +126,8 @@ put_closed (Output es p us P) outer inner bs covers h =
     let d = process_open outer P in
     let abc : (a || b || c) ≡ false = neither_left (a || b || c) d h in
     let ab : (a || b) ≡ false = neither_left (a || b) c abc in
-    neither _ _
-    (neither _ _ (neither _ _ (exprs_closed outer inner bs covers es (neither_left a b ab)) (pred_closed outer inner bs covers p (neither_right a b ab)))
+    or_from _ _
+    (or_from _ _ (or_from _ _ (exprs_closed outer inner bs covers es (neither_left a b ab)) (pred_closed outer inner bs covers p (neither_right a b ab)))
     (updates_closed outer inner bs covers us (neither_right (a || b) c abc)))
     (put_closed P outer inner bs covers (neither_right (a || b || c) d h))
 put_closed (Input p xs us P) outer inner bs covers h =
@@ -144,15 +136,15 @@ put_closed (Input p xs us P) outer inner bs covers h =
     let c = updates_open (xs ++ outer) us in
     let d = process_open (xs ++ outer) P in
     let bc : (b || c) ≡ false = neither_left (b || c) d h in
-    neither _ _
-    (neither _ _ (pred_closed (xs ++ outer) (xs ++ inner) (outside xs bs) more p (neither_left b c bc)) (updates_closed (xs ++ outer) (xs ++ inner) (outside xs bs) more us (neither_right b c bc)))
+    or_from _ _
+    (or_from _ _ (pred_closed (xs ++ outer) (xs ++ inner) (outside xs bs) more p (neither_left b c bc)) (updates_closed (xs ++ outer) (xs ++ inner) (outside xs bs) more us (neither_right b c bc)))
     (put_closed P (xs ++ outer) (xs ++ inner) (outside xs bs) more (neither_right (b || c) d h))
 put_closed (When g P) outer inner bs covers h =
-    neither _ _ (pred_closed outer inner bs covers g (neither_left _ _ h)) (put_closed P outer inner bs covers (neither_right (pred_open outer g) _ h))
+    or_from _ _ (pred_closed outer inner bs covers g (neither_left _ _ h)) (put_closed P outer inner bs covers (neither_right (pred_open outer g) _ h))
 put_closed (Choice P Q) outer inner bs covers h =
-    neither _ _ (put_closed P outer inner bs covers (neither_left _ _ h)) (put_closed Q outer inner bs covers (neither_right (process_open outer P) _ h))
+    or_from _ _ (put_closed P outer inner bs covers (neither_left _ _ h)) (put_closed Q outer inner bs covers (neither_right (process_open outer P) _ h))
 put_closed (Par P Q) outer inner bs covers h =
-    neither _ _ (put_closed P outer inner bs covers (neither_left _ _ h)) (put_closed Q outer inner bs covers (neither_right (process_open outer P) _ h))
+    or_from _ _ (put_closed P outer inner bs covers (neither_left _ _ h)) (put_closed Q outer inner bs covers (neither_right (process_open outer P) _ h))
 put_closed (Call c) outer inner bs covers h = refl
 
 -- ---- What an input becomes
@@ -171,7 +163,7 @@ and_left false b h = h
 covers_own : (xs : List Name) (bs : Values) → names bs ≡ xs → Covers (xs ++ []) [] bs
 covers_own xs bs e x h =
     let own : lists xs x ≡ true =
-    elim (either (lists xs x) false (sym (lists_append xs [] x) ∙ h)) [ inl y ↦ y | inr n ↦ false_not_true n ] in
+    elim (or_cases (lists xs x) false (sym (lists_append xs [] x) ∙ h)) [ inl y ↦ y | inr n ↦ absurd (false≢true n) ] in
     inr (ap (λ ys. lists ys x) e ∙ own)
 
 module _ (p : Program) (checked : IsChecked p) where
@@ -184,10 +176,10 @@ module _ (p : Program) (checked : IsChecked p) where
         | inl nil ↦ ap (process_open []) nil
         | inr found ↦
             ap (process_open []) found.body
-            ∙ elim (pick (process_open [] (process_of found.definition.body))) [
+            ∙ elim (cases_Bool (process_open [] (process_of found.definition.body))) [
               | inr f ↦ f
               | inl t ↦ absurd (checked cause.OpenVariable (site.Definition found.number) (
-                inside p.definitions found.number found.definition found.at,
+                slice_get_within p.definitions found.number found.definition found.at,
                 subst (λ (o : Option Definition). IsSomeAnd o (λ d. IsTrue (process_open [] (process_of d.body)))) (sym found.at) t,
               ))
             ]
@@ -195,10 +187,10 @@ module _ (p : Program) (checked : IsChecked p) where
 
   pub run_closed : (i : ℕ) (C : Component) → slice_get p.components i ≡ Some C → process_open [] (process_of C.run) ≡ false
   run_closed i C at =
-      elim (pick (process_open [] (process_of C.run))) [
+      elim (cases_Bool (process_open [] (process_of C.run))) [
         | inr f ↦ f
         | inl t ↦ absurd (checked cause.OpenVariable (site.Component i)
-            (inside p.components i C at, subst (λ (o : Option Component). IsSomeAnd o (λ d. IsTrue (process_open [] (process_of d.run)))) (sym at) t))
+            (slice_get_within p.components i C at, subst (λ (o : Option Component). IsSomeAnd o (λ d. IsTrue (process_open [] (process_of d.run)))) (sym at) t))
       ]
 
   abbrev Closed : Process → Type 0
@@ -222,8 +214,8 @@ module _ (p : Program) (checked : IsChecked p) where
           let one = neither_left (process_open [] P) (process_open [] Q) closed in
           let two = neither_right (process_open [] P) (process_open [] Q) closed in
           elim h [
-            | inl left ↦ ap (process_open []) left.2 ∙ neither _ _ (said P k l e left.0 one left.1) two
-            | inr right ↦ ap (process_open []) right.4 ∙ neither _ _ one (said Q right.0 l e right.1 two right.3)
+            | inl left ↦ ap (process_open []) left.2 ∙ or_from _ _ (said P k l e left.0 one left.1) two
+            | inr right ↦ ap (process_open []) right.4 ∙ or_from _ _ one (said Q right.0 l e right.1 two right.3)
           ]
       said (Call c) k l e R closed h = calls_close c k l e R h
 
@@ -262,8 +254,8 @@ module _ (p : Program) (checked : IsChecked p) where
           let one = neither_left (process_open [] P) (process_open [] Q) closed in
           let two = neither_right (process_open [] P) (process_open [] Q) closed in
           elim h [
-            | inl left ↦ ap (process_open []) left.2 ∙ neither _ _ (taken P k e left.0 one left.1) two
-            | inr right ↦ ap (process_open []) right.4 ∙ neither _ _ one (taken Q right.0 e right.1 two right.3)
+            | inl left ↦ ap (process_open []) left.2 ∙ or_from _ _ (taken P k e left.0 one left.1) two
+            | inr right ↦ ap (process_open []) right.4 ∙ or_from _ _ one (taken Q right.0 e right.1 two right.3)
           ]
       taken (Call c) k e R closed h = calls_close c k e R h
 

@@ -8,12 +8,11 @@ use Rattle.abc_term.specs.Processes.{Process, Nil, Output, Input, When, Choice, 
 use Rattle.abc_term.specs.Standing.{definitions_of}
 use Rattle.abc_term.specs.Speaking.{Label, outs_of, call_outs}
 use Rattle.abc_term.specs.Hearing.{ins_of, call_ins, takes}
-use Rattle.abc_term.specs.Guarded.{EachUnguarded, defines}
-use Rattle.abc_checks.specs.Parts.{calls}
+use Rattle.abc_term.specs.Calls.{calls}
+use Rattle.abc_term.specs.Guarded.{defines}
 use Rattle.abc_checks.specs.Measures.{width_of, IsSolution}
 use Rattle.abc_checks.specs.Facts.{IsChecked}
-use Rattle.abc_checks.proofs.NamesMet.{lists_append}
-use Rattle.abc_checks.proofs.CallPaths.{either, from_left, from_right, same_itself}
+use Rattle.abc_term.proofs.Listed.{in_left, in_right, in_either}
 use Rattle.abc_checks.proofs.Checked.{bodies_there}
 use Rattle.abc_sound.specs.Built.{IsPart, itself, after_output, after_input, guarded, left_choice, right_choice, left_side, right_side, IsPartOf, of_definition, of_component, IsBuilt, leaf, beside}
 use Rattle.abc_sound.specs.Walks.{actions_of, call_actions, actions}
@@ -77,15 +76,6 @@ module _ (p : Program) (checked : IsChecked p) where
       omega (arith, one, two, both.2)
 
   -- ---- Calls
-  split_calls : (xs ys : List Name) (c : Name) → lists (xs ++ ys) c ≡ true → (lists xs c ≡ true) ⊎ (lists ys c ≡ true)
-  split_calls xs ys c h = either (lists xs c) (lists ys c) (sym (lists_append xs ys c) ∙ h)
-
-  in_left : (xs ys : List Name) (c : Name) → lists xs c ≡ true → lists (xs ++ ys) c ≡ true
-  in_left xs ys c h = lists_append xs ys c ∙ from_left (lists xs c) (lists ys c) h
-
-  in_right : (xs ys : List Name) (c : Name) → lists ys c ≡ true → lists (xs ++ ys) c ≡ true
-  in_right xs ys c h = lists_append xs ys c ∙ from_right (lists xs c) (lists ys c) h
-
   outward : (c : Name) {whole P : Process} → IsPart whole P → lists (calls P) c ≡ true → lists (calls whole) c ≡ true
   outward c itself h = h
   outward c (after_output part) h = outward c part h
@@ -103,18 +93,7 @@ module _ (p : Program) (checked : IsChecked p) where
   pub built_called : (c : Name) (R : Process) → IsBuilt p R → lists (calls R) c ≡ true → defines defs c ≡ true
   built_called c R (leaf bs P part e) h = part_called c P part (sym (ap (λ ys. lists ys c) (ap calls e ∙ calls-put bs P)) ∙ h)
   built_called c R (beside {P = P} {Q = Q} a b) h =
-      elim (split_calls (calls P) (calls Q) c h) [
+      elim (in_either (calls P) (calls Q) c h) [
         | inl left ↦ built_called c P a left
         | inr right ↦ built_called c Q b right
       ]
-
-  pub each_defined : (P : Process) → ((c : Name) → lists (calls P) c ≡ true → defines defs c ≡ true) → EachUnguarded (λ c. IsTrue (defines defs c)) P
-  each_defined Nil h = tt
-  each_defined (Output es q us P) h = tt
-  each_defined (Input q xs us P) h = tt
-  each_defined (When g P) h = each_defined P h
-  each_defined (Choice P Q) h =
-      (each_defined P (λ c l. h c (in_left (calls P) (calls Q) c l)), each_defined Q (λ c r. h c (in_right (calls P) (calls Q) c r)))
-  each_defined (Par P Q) h =
-      (each_defined P (λ c l. h c (in_left (calls P) (calls Q) c l)), each_defined Q (λ c r. h c (in_right (calls P) (calls Q) c r)))
-  each_defined (Call c) h = h c (from_left (same_name c c) false (same_itself c))

@@ -3,7 +3,7 @@ use Rattle.std.proofs.Common.{◌≡◌, ℕ, ◌+◌, ◌++◌, refl, ap, min, 
 use Rattle.abc_pred.specs.declared.names.Name.{Name}
 use Rattle.abc_term.specs.Processes.{Process, Nil, Output, Input, When, Choice, Par, Call}
 use Rattle.abc_term.specs.Substitution.{Values, put, outside}
-use Rattle.abc_checks.specs.Parts.{calls}
+use Rattle.abc_term.specs.Calls.{calls}
 use Rattle.abc_checks.specs.Measures.{width_of}
 use Rattle.abc_sound.specs.Walks.{parts_of, actions_of}
 

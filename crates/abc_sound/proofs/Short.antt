@@ -1,5 +1,7 @@
 -- A part of a checked program is short, and so is the walk over it.
 use Rattle.std.proofs.Common.{◌≡◌, ◌≤◌, ◌<◌, ◌||◌, ℕ, zero, suc, ◌+◌, Bool, true, false, List, [], ◌∷◌, length, nat_lt, refl, sym, subst, inl, inr, arith, slice_get, Option, Some}
+use Rattle.std.proofs.lemmas.Bool.{cases_Bool, or_parts}
+use Rattle.std.proofs.lemmas.Option.{slice_get_within}
 use Rattle.std.specs.Prelude.{IsSomeAnd}
 use Rattle.std.proofs.lemmas.Bool.Decides.{nat_tests}
 use Rattle.abc_pred.specs.declared.names.Name.{Name}
@@ -12,25 +14,18 @@ use Rattle.abc_checks.specs.Measures.{breadth_of, IsSolution, IsLeastSolution, h
 use Rattle.abc_checks.specs.Facts.{IsChecked}
 use Rattle.abc_cause.specs.declared.CheckCause.TheVariants as cause
 use Rattle.abc_checks.specs.declared.causes.Site.TheVariants as site
-use Rattle.abc_checks.proofs.CallPaths.{pick}
 use Rattle.abc_sound.specs.Built.{IsPart, itself, after_output, after_input, guarded, left_choice, right_choice, left_side, right_side, IsPartOf, of_definition, of_component}
 use Rattle.abc_sound.specs.Walks.{parts_of, actions_of, call_parts, call_actions, parts, actions}
 use Rattle.abc_sound.specs.SoundLaws.{PartsAreShort, ActionsAreFew}
 use Rattle.abc_sound.proofs.Existing.{least_breadths_exist}
 use Rattle.abc_sound.proofs.Put.{parts_of-put, actions_of-put}
 
+-- both sides of a false `||` are false
 pub neither_left : (a b : Bool) → (a || b) ≡ false → a ≡ false
-neither_left true b h = h
-neither_left false b h = refl
+neither_left a b h = (or_parts a b h).0
 
 pub neither_right : (a b : Bool) → (a || b) ≡ false → b ≡ false
-neither_right true b h = absurd (cc)
-neither_right false b h = h
-
-pub inside : {A : Type 0} (xs : List A) (i : ℕ) (x : A) → slice_get xs i ≡ Some x → i < length xs
-inside [] i x h = cc
-inside (y ∷ xs) zero x h = omega arith
-inside (y ∷ xs) (suc i) x h = omega (arith, inside xs i x h)
+neither_right a b h = (or_parts a b h).1
 
 -- ---- No part of what has no broad part is broad
 module _ (b : Name → ℕ) where
@@ -71,18 +66,18 @@ module _ (p : Program) (checked : IsChecked p) (b : Name → ℕ) (least : IsLea
 
   body_short : (i : ℕ) (d : Definition) → slice_get p.definitions i ≡ Some d → has_broad_part b (process_of d.body) ≡ false
   body_short i d at =
-      elim (pick (has_broad_part b (process_of d.body))) [
+      elim (cases_Bool (has_broad_part b (process_of d.body))) [
         | inr f ↦ f
         | inl t ↦ absurd (checked cause.TooManyMoves (site.Definition i)
-            (inside p.definitions i d at, subst (λ (o : Option Definition). IsSomeAnd o (λ e. HasTooManyMoves defs (process_of e.body))) (sym at) (b, least, t)))
+            (slice_get_within p.definitions i d at, subst (λ (o : Option Definition). IsSomeAnd o (λ e. HasTooManyMoves defs (process_of e.body))) (sym at) (b, least, t)))
       ]
 
   run_short : (i : ℕ) (C : Component) → slice_get p.components i ≡ Some C → has_broad_part b (process_of C.run) ≡ false
   run_short i C at =
-      elim (pick (has_broad_part b (process_of C.run))) [
+      elim (cases_Bool (has_broad_part b (process_of C.run))) [
         | inr f ↦ f
         | inl t ↦ absurd (checked cause.TooManyMoves (site.Component i)
-            (inside p.components i C at, subst (λ (o : Option Component). IsSomeAnd o (λ e. HasTooManyMoves defs (process_of e.run))) (sym at) (b, least, t)))
+            (slice_get_within p.components i C at, subst (λ (o : Option Component). IsSomeAnd o (λ e. HasTooManyMoves defs (process_of e.run))) (sym at) (b, least, t)))
       ]
 
   part_short : (P : Process) → IsPartOf p P → breadth_of b P ≤ 2048

@@ -9,6 +9,7 @@ use Rattle.abc_term.proofs.Bindings.{putting_nothing}
 use Rattle.abc_term.proofs.SpeakingPlaces.{speaking_has_its_places}
 use Rattle.abc_term.proofs.HearingPlaces.{below_ins}
 use Rattle.abc_term.proofs.Chains.{guarded_calls_end}
+use Rattle.abc_term.proofs.Listed.{unguarded_called}
 use Rattle.abc_checks.specs.Variables.{process_open}
 use Rattle.abc_checks.specs.Measures.{width_of, IsSolution}
 use Rattle.abc_checks.proofs.Checked.{small_widths, calls_end}
@@ -20,7 +21,7 @@ use Rattle.abc_sound.proofs.Existing.{least_widths_exist, below_or_not}
 use Rattle.abc_sound.proofs.Building.{speaking_builds, hearing_builds}
 use Rattle.abc_sound.proofs.Closing.{run_closed, speaking_closes, hearing_closes}
 use Rattle.abc_sound.proofs.Widths.{speaking_narrows, hearing_narrows, leaves_narrow}
-use Rattle.abc_sound.proofs.Counts.{outs_are_actions, ins_are_actions, built_actions, built_called, each_defined}
+use Rattle.abc_sound.proofs.Counts.{outs_are_actions, ins_are_actions, built_actions, built_called}
 
 is_closed : (b : Bool) → b ≡ false → IsTrue (not b)
 is_closed b h = ap not h
@@ -129,4 +130,4 @@ called_are_defined p C sound c h = built_called p sound.checked c C.process soun
 pub sound_calls_end : SoundCallsEnd
 sound_calls_end p C sound =
     guarded_calls_end (definitions_of p.definitions) C.process (calls_end p sound.checked)
-    (each_defined p sound.checked C.process (λ c h. built_called p sound.checked c C.process sound.built h))
+    (λ c h. built_called p sound.checked c C.process sound.built (unguarded_called C.process c h))

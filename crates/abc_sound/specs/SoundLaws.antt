@@ -12,7 +12,7 @@ use Rattle.abc_term.specs.Standing.{definitions_of, component_of}
 use Rattle.abc_term.specs.Speaking.{Label, Speaks, outs}
 use Rattle.abc_term.specs.Hearing.{Hears, ins}
 use Rattle.abc_term.specs.Guarded.{IsGuarded, defines}
-use Rattle.abc_checks.specs.Parts.{calls}
+use Rattle.abc_term.specs.Calls.{calls}
 use Rattle.abc_checks.specs.Measures.{width_of, breadth_of, IsLeastSolution}
 use Rattle.abc_checks.specs.Facts.{IsChecked}
 use Rattle.abc_checks.specs.declared.limits.TheConstants.{WIDEST, BROADEST}

@@ -1,6 +1,15 @@
 //! Each function's contract is a law, and its body does nothing.
 
+ghost use Rattle.std.specs.Prelude.{◌≡◌};
 ghost use Rattle.abc_sound.specs.SoundLaws.{LeastWidthsExist, LeastBreadthsExist, ProgramsBeginSound, SpeakingKeepsSoundness, HearingKeepsSoundness, PartsAreShort, ActionsAreFew, LeavesAreFew, OutputsAreFew, InputsAreFew, SpeakingPlacesFit, HearingPlacesFit, CalledAreDefined, SoundCallsEnd};
+
+use crate::limits::{MOST_ACTIONS, MOST_MOVES};
+
+/// The limits that these laws speak of: 1,024 actions of a part and 65,536 moves of a component.
+pub fn move_limits_are_these()
+    ensures actions { MOST_ACTIONS ≡ 1024 }
+    ensures moves { MOST_MOVES ≡ 65536 }
+{}
 
 /// The widths and the breadths that the checks speak of exist.
 pub fn least_measures_exist()

@@ -9,7 +9,7 @@ mod laws;
 mod limits;
 
 pub use laws::{
-    calls_end, counts_are_small, least_measures_exist, moves_keep_soundness, parts_are_short,
-    programs_begin_sound, sound_components_are_narrow,
+    calls_end, counts_are_small, least_measures_exist, move_limits_are_these, moves_keep_soundness,
+    parts_are_short, programs_begin_sound, sound_components_are_narrow,
 };
 pub use limits::{MOST_ACTIONS, MOST_MOVES};

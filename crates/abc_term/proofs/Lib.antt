@@ -1,3 +1,5 @@
+pub mod Listed
+pub mod Bodies
 pub mod Guards
 pub mod SpeakingPlaces
 pub mod HearingPlaces
@@ -10,3 +12,7 @@ pub mod ColouringSteps
 pub mod Unfolding
 pub mod Chains
 pub mod ByNumber
+pub mod Hearers
+pub mod ExampleValues
+pub mod ExamplePlaces
+pub mod ExampleCalls

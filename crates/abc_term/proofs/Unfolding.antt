@@ -1,13 +1,22 @@
 -- Where unguarded calls end, a deeper unfolding changes nothing.
-use Rattle.std.proofs.Common.{◌≡◌, inl, inr, ◌↔◌, ℕ, zero, suc, ◌+◌, if◌then◌else◌, List, [], length, refl, sym, ap, ◌∙◌}
+use Rattle.std.proofs.Common.{◌≡◌, inl, inr, ◌↔◌, ℕ, zero, suc, ◌+◌, ◌++◌, if◌then◌else◌, IsTrue, List, [], length, refl, sym, ap, ◌∙◌}
 use Rattle.abc_pred.specs.declared.names.Name.{Name}
-use Rattle.abc_pred.specs.Maps.{Entries}
+use Rattle.abc_pred.specs.Maps.{Entries, lists}
 use Rattle.abc_pred.specs.Meaning.{sat}
 use Rattle.abc_term.specs.Processes.{Process, Nil, Output, Input, When, Choice, Par, Call, Definitions, body_of}
 use Rattle.abc_term.specs.Speaking.{Label, outs_of, call_outs, Says, CallSays}
 use Rattle.abc_term.specs.Hearing.{ins_of, call_ins, Takes, CallTakes}
+use Rattle.abc_term.specs.Calls.{unguarded_calls}
 use Rattle.abc_term.specs.Guarded.{EachUnguarded, CallEnds}
 use Rattle.abc_term.specs.Laws.{CallsCountAsTheirBodies, CallsSpeakAsTheirBodies, CallsHearAsTheirBodies}
+use Rattle.abc_term.proofs.Listed.{in_left, in_right, in_itself}
+
+-- what holds of each unguarded call of two processes, holds of those of each
+on_left : (Good : Name → Type 0) (P Q : Process) → ((c : Name) → IsTrue (lists (unguarded_calls P ++ unguarded_calls Q) c) → Good c) → EachUnguarded Good P
+on_left Good P Q g c h = g c (in_left (unguarded_calls P) (unguarded_calls Q) c h)
+
+on_right : (Good : Name → Type 0) (P Q : Process) → ((c : Name) → IsTrue (lists (unguarded_calls P ++ unguarded_calls Q) c) → Good c) → EachUnguarded Good Q
+on_right Good P Q g c h = g c (in_right (unguarded_calls P) (unguarded_calls Q) c h)
 
 -- ---- counts
 module _ (Good : Name → Type 0) (env : Entries) (a b : Name → ℕ) (agree : (c : Name) → Good c → a c ≡ b c) where
@@ -16,9 +25,9 @@ module _ (Good : Name → Type 0) (env : Entries) (a b : Name → ℕ) (agree : 
   outs_agree (Output es p us P) g = refl
   outs_agree (Input p xs us P) g = refl
   outs_agree (When q P) g = ap (λ n. if sat q env env [] then n else 0) (outs_agree P g)
-  outs_agree (Choice P Q) g = let l = outs_agree P g.0 in let r = outs_agree Q g.1 in λ i. l i + r i
-  outs_agree (Par P Q) g = let l = outs_agree P g.0 in let r = outs_agree Q g.1 in λ i. l i + r i
-  outs_agree (Call c) g = agree c g
+  outs_agree (Choice P Q) g = let l = outs_agree P (on_left Good P Q g) in let r = outs_agree Q (on_right Good P Q g) in λ i. l i + r i
+  outs_agree (Par P Q) g = let l = outs_agree P (on_left Good P Q g) in let r = outs_agree Q (on_right Good P Q g) in λ i. l i + r i
+  outs_agree (Call c) g = agree c (g c (in_itself c))
 
   module _ (l : Label) (interface : List Name) where
     ins_agree : (P : Process) → EachUnguarded Good P → ins_of l env interface a P ≡ ins_of l env interface b P
@@ -26,9 +35,9 @@ module _ (Good : Name → Type 0) (env : Entries) (a b : Name → ℕ) (agree : 
     ins_agree (Output es p us P) g = refl
     ins_agree (Input p xs us P) g = refl
     ins_agree (When q P) g = ap (λ n. if sat q env env [] then n else 0) (ins_agree P g)
-    ins_agree (Choice P Q) g = let l = ins_agree P g.0 in let r = ins_agree Q g.1 in λ i. l i + r i
-    ins_agree (Par P Q) g = let l = ins_agree P g.0 in let r = ins_agree Q g.1 in λ i. l i + r i
-    ins_agree (Call c) g = agree c g
+    ins_agree (Choice P Q) g = let l = ins_agree P (on_left Good P Q g) in let r = ins_agree Q (on_right Good P Q g) in λ i. l i + r i
+    ins_agree (Par P Q) g = let l = ins_agree P (on_left Good P Q g) in let r = ins_agree Q (on_right Good P Q g) in λ i. l i + r i
+    ins_agree (Call c) g = agree c (g c (in_itself c))
 
 module _ (defs : Definitions) (env : Entries) where
   call_outs_agree : (d : ℕ) (c : Name) → CallEnds d defs c → call_outs d defs env c ≡ call_outs (suc d) defs env c
@@ -51,15 +60,15 @@ module _ (Good : Name → Type 0) (env : Entries) (interface : List Name) (a b :
   says_goes (When q P) g k l e R s = (s.0, says_goes P g k l e R s.1)
   says_goes (Choice P Q) g k l e R s =
       elim s [
-        | inl t ↦ inl (says_goes P g.0 k l e R t)
-        | inr t ↦ inr (t.0, t.1 ∙ ap (λ n. n + t.0) (outs_agree Good env a b agree P g.0), says_goes Q g.1 t.0 l e R t.2)
+        | inl t ↦ inl (says_goes P (on_left Good P Q g) k l e R t)
+        | inr t ↦ inr (t.0, t.1 ∙ ap (λ n. n + t.0) (outs_agree Good env a b agree P (on_left Good P Q g)), says_goes Q (on_right Good P Q g) t.0 l e R t.2)
       ]
   says_goes (Par P Q) g k l e R s =
       elim s [
-        | inl t ↦ inl (t.0, says_goes P g.0 k l e t.0 t.1, t.2)
-        | inr t ↦ inr (t.0, t.1, t.2 ∙ ap (λ n. n + t.0) (outs_agree Good env a b agree P g.0), says_goes Q g.1 t.0 l e t.1 t.3, t.4)
+        | inl t ↦ inl (t.0, says_goes P (on_left Good P Q g) k l e t.0 t.1, t.2)
+        | inr t ↦ inr (t.0, t.1, t.2 ∙ ap (λ n. n + t.0) (outs_agree Good env a b agree P (on_left Good P Q g)), says_goes Q (on_right Good P Q g) t.0 l e t.1 t.3, t.4)
       ]
-  says_goes (Call c) g k l e R s = goes c g k l e R s
+  says_goes (Call c) g k l e R s = goes c (g c (in_itself c)) k l e R s
 
 module _ (Good : Name → Type 0) (l : Label) (env : Entries) (interface : List Name) (a b : Name → ℕ) (agree : (c : Name) → Good c → a c ≡ b c)
     (A B : Name → ℕ → Entries → Process → Type 0) (goes : (c : Name) → Good c → (k : ℕ) (e : Entries) (R : Process) → A c k e R → B c k e R) where
@@ -70,15 +79,15 @@ module _ (Good : Name → Type 0) (l : Label) (env : Entries) (interface : List 
   takes_goes (When q P) g k e R s = (s.0, takes_goes P g k e R s.1)
   takes_goes (Choice P Q) g k e R s =
       elim s [
-        | inl t ↦ inl (takes_goes P g.0 k e R t)
-        | inr t ↦ inr (t.0, t.1 ∙ ap (λ n. n + t.0) (ins_agree Good env a b agree l interface P g.0), takes_goes Q g.1 t.0 e R t.2)
+        | inl t ↦ inl (takes_goes P (on_left Good P Q g) k e R t)
+        | inr t ↦ inr (t.0, t.1 ∙ ap (λ n. n + t.0) (ins_agree Good env a b agree l interface P (on_left Good P Q g)), takes_goes Q (on_right Good P Q g) t.0 e R t.2)
       ]
   takes_goes (Par P Q) g k e R s =
       elim s [
-        | inl t ↦ inl (t.0, takes_goes P g.0 k e t.0 t.1, t.2)
-        | inr t ↦ inr (t.0, t.1, t.2 ∙ ap (λ n. n + t.0) (ins_agree Good env a b agree l interface P g.0), takes_goes Q g.1 t.0 e t.1 t.3, t.4)
+        | inl t ↦ inl (t.0, takes_goes P (on_left Good P Q g) k e t.0 t.1, t.2)
+        | inr t ↦ inr (t.0, t.1, t.2 ∙ ap (λ n. n + t.0) (ins_agree Good env a b agree l interface P (on_left Good P Q g)), takes_goes Q (on_right Good P Q g) t.0 e t.1 t.3, t.4)
       ]
-  takes_goes (Call c) g k e R s = goes c g k e R s
+  takes_goes (Call c) g k e R s = goes c (g c (in_itself c)) k e R s
 
 -- ---- a depth and the next
 module _ (defs : Definitions) (env : Entries) (interface : List Name) where
@@ -126,14 +135,14 @@ call_ins_as_body defs l env interface zero c g = elim g [ ]
 call_ins_as_body defs l env interface (suc d) c g = call_ins_agree defs env l interface (suc d) c g
 
 pub calls_count_as_their_bodies : CallsCountAsTheirBodies
-calls_count_as_their_bodies defs C c l g = (call_outs_as_body defs C.env (length defs) c g, call_ins_as_body defs l C.env C.interface (length defs) c g)
+calls_count_as_their_bodies defs C c l g = (call_outs_as_body defs C.env (length defs) c (g c (in_itself c)), call_ins_as_body defs l C.env C.interface (length defs) c (g c (in_itself c)))
 
 pub calls_speak_as_their_bodies : CallsSpeakAsTheirBodies
 calls_speak_as_their_bodies defs C c place l C' g =
-    let b = call_as_body defs C.env C.interface (length defs) c g place l C'.env C'.process in
+    let b = call_as_body defs C.env C.interface (length defs) c (g c (in_itself c)) place l C'.env C'.process in
     (λ s. (b.0 s.0, s.1), λ s. (b.1 s.0, s.1))
 
 pub calls_hear_as_their_bodies : CallsHearAsTheirBodies
 calls_hear_as_their_bodies defs C c l place C' g =
-    let b = call_takes_as_body defs l C.env C.interface (length defs) c g place C'.env C'.process in
+    let b = call_takes_as_body defs l C.env C.interface (length defs) c (g c (in_itself c)) place C'.env C'.process in
     (λ s. (b.0 s.0, s.1), λ s. (b.1 s.0, s.1))

@@ -8,3 +8,10 @@ pub mod Interleaving
 pub mod GuardOpened
 pub mod Overflow
 pub mod Colouring
+pub mod ReadsBeforeUpdate
+pub mod PassedOn
+pub mod OtherLength
+pub mod BoundAnew
+pub mod TwoWays
+pub mod NobodySpeaks
+pub mod Calling

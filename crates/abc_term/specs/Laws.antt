@@ -146,6 +146,25 @@ MulticastByNumber =
     (defs : Definitions) (S : System) (sender place : ℕ) (heard : List (ℕ × ℕ)) (l : Label) (S' : System) →
     EachMoves defs sender place heard l 0 S S' ↔ EachByNumber defs S sender place heard l S'
 
+-- Who is listed as a hearer is another component of the system, and hears at the place that it is listed with.
+abbrev pub ListedHear : Type 0
+ListedHear =
+    (defs : Definitions) (S : System) (sender place : ℕ) (heard : List (ℕ × ℕ)) (l : Label) (T : System) →
+    Multicasts defs S sender place heard l T → (k : ℕ) (h : ℕ × ℕ) → slice_get heard k ≡ Some h →
+    (h.0 < length S) × (h.0 ≢ sender)
+    × ((C C' : Component) → slice_get S h.0 ≡ Some C → slice_get T h.0 ≡ Some C' → Hears defs C l (Some h.1) C')
+
+-- Hearers are listed by rising numbers, so each once.
+abbrev pub ListedRise : Type 0
+ListedRise =
+    (defs : Definitions) (S : System) (sender place : ℕ) (heard : List (ℕ × ℕ)) (l : Label) (T : System) →
+    Multicasts defs S sender place heard l T →
+    (j k : ℕ) (g h : ℕ × ℕ) → j < k → slice_get heard j ≡ Some g → slice_get heard k ≡ Some h → g.0 < h.0
+
+-- The sender of a step is a component of the system, also where the step is empty.
+abbrev pub SenderExists : Type 0
+SenderExists = (defs : Definitions) (S : System) (c : Choice) (T : System) → Step defs S c T → c.sender < length S
+
 -- The system and the choice determine the label and the next system.
 abbrev pub MulticastIsDetermined : Type 0
 MulticastIsDetermined =

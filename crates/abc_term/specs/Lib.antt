@@ -3,6 +3,7 @@ pub mod Substitution
 pub mod Speaking
 pub mod Hearing
 pub mod Systems
+pub mod Calls
 pub mod Guarded
 pub mod Standing
 pub mod Laws

@@ -1,6 +1,6 @@
 //! Laws of the rules, each proved as the contract of a function that does nothing.
 
-ghost use Rattle.abc_term.specs.Laws.{SpeakingHasItsPlaces, SpeakingIsDetermined, HearingHasItsPlaces, HearingIsDetermined, GuardedCallsEnd, CallsCountAsTheirBodies, CallsSpeakAsTheirBodies, CallsHearAsTheirBodies, HearingExists, DiscardIsTheRest, OnlyTheMeantReceive, FalseIsHeardByNobody, FalseHasNoHearers, MulticastByNumber, MulticastIsDetermined, StepIsDetermined, RunIsDetermined, OutputIsNeverRefused, OutputNeedsNoReceiver, SpeakingKeepsMaps, LabelsShowMaps, HearingKeepsMaps, RunsKeepMaps, ProgramsBeginWithMaps, PutPredicateIsBound, PutPredicateCloses, PutExpressionIsBound, PuttingTwice, PuttingNothing};
+ghost use Rattle.abc_term.specs.Laws.{SpeakingHasItsPlaces, SpeakingIsDetermined, HearingHasItsPlaces, HearingIsDetermined, GuardedCallsEnd, CallsCountAsTheirBodies, CallsSpeakAsTheirBodies, CallsHearAsTheirBodies, HearingExists, DiscardIsTheRest, OnlyTheMeantReceive, FalseIsHeardByNobody, FalseHasNoHearers, MulticastByNumber, ListedHear, ListedRise, SenderExists, MulticastIsDetermined, StepIsDetermined, RunIsDetermined, OutputIsNeverRefused, OutputNeedsNoReceiver, SpeakingKeepsMaps, LabelsShowMaps, HearingKeepsMaps, RunsKeepMaps, ProgramsBeginWithMaps, PutPredicateIsBound, PutPredicateCloses, PutExpressionIsBound, PuttingTwice, PuttingNothing};
 
 /// The places of a component's outputs, and those of its inputs that take a message, are numbered
 /// from 0 without gap, and each has exactly one move.
@@ -36,6 +36,14 @@ pub fn only_the_meant_receive()
 /// In a multicast the component with the sender's number speaks, and each other one hears.
 pub fn each_component_moves()
     ensures { MulticastByNumber }
+{}
+
+/// The sender of a step and the hearers that it lists are components, each listed once, and each hears
+/// at the place that it is listed with.
+pub fn who_is_listed_hears()
+    ensures sender { SenderExists }
+    ensures hearers { ListedHear }
+    ensures rising { ListedRise }
 {}
 
 /// A system and a choice of sender, place and hearers determine the label and the next system.

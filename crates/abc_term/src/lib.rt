@@ -8,10 +8,10 @@ mod examples;
 mod laws;
 mod terms;
 
-pub use examples::{what_is_no_step, worked_steps};
+pub use examples::{what_is_no_step, worked_calls, worked_steps};
 pub use laws::{
     calls_are_their_bodies, choices_determine_steps, each_component_moves, each_place_has_one_move,
     environments_are_maps, every_message_is_heard, no_output_is_refused, only_the_meant_receive,
-    substitution_is_binding,
+    substitution_is_binding, who_is_listed_hears,
 };
 pub use terms::{After, Component, Definition, Process, Program, Update};

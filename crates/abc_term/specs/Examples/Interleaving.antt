@@ -1,6 +1,7 @@
 -- Two branches that are both ready
 -- comp a { show; run (4) @ (tt) . 0; }
 -- comp b { show; run ? (tt) ($v) . [l := $v] 0 | ? (tt) ($v) . [r := $v] 0; }
+-- comp c { show; run (4) @ (tt) . 0 | (5) @ (tt) . 0; }
 use Rattle.std.specs.Prelude.{ℕ, List, [], ◌∷◌}
 use Rattle.abc_pred.specs.declared.names.Name.{Name}
 use Rattle.abc_pred.specs.Maps.{Entries}
@@ -43,3 +44,17 @@ RightHears =
 abbrev pub NotBothHear : Type 0
 NotBothHear =
     (place : ℕ) (heard : List (ℕ × ℕ)) (env : Entries) → ¬ Step [] before (choice 0 place heard) (after env (Par Nil Nil))
+
+abbrev pub tells : ℕ → Process
+tells n = Output (say (number n)) True [] Nil
+
+-- Either of two branches speaks too, and the other one stays on its side.
+abbrev pub LeftSpeaks : Type 0
+LeftSpeaks =
+    Multicasts [] (component [] [] (Par (tells 4) (tells 5)) ∷ []) 0 0 [] (label [] True (number 4 ∷ []))
+    (component [] [] (Par Nil (tells 5)) ∷ [])
+
+abbrev pub RightSpeaks : Type 0
+RightSpeaks =
+    Multicasts [] (component [] [] (Par (tells 4) (tells 5)) ∷ []) 0 1 [] (label [] True (number 5 ∷ []))
+    (component [] [] (Par (tells 4) Nil) ∷ [])
