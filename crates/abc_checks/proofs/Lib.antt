@@ -5,3 +5,4 @@ pub mod Cycling
 pub mod Solving
 pub mod Answering
 pub mod Checked
+pub mod WorkedCounts

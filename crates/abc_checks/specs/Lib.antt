@@ -8,3 +8,4 @@ pub mod Measures
 pub mod Tables
 pub mod Facts
 pub mod CheckedLaws
+pub mod Worked

@@ -21,7 +21,9 @@ mod variables;
 pub use abc_cause::CheckCause;
 pub use causes::{CheckRefusal, Site};
 pub use checking::check;
-pub use laws::{calls_have_bodies, checked_calls_end, limits_are_these, widths_are_small};
+pub use laws::{
+    calls_have_bodies, checked_calls_end, limits_are_these, widths_are_small, worked_counts,
+};
 pub use limits::{BROADEST, MOST_COMPONENTS, WIDEST};
 
 #[cfg(test)]
