@@ -5,6 +5,7 @@ use Rattle.std.proofs.lemmas.Bool.{cases_lt}
 use Rattle.std.proofs.lemmas.List.{take_more, drop-drop, drop_at, drop_all, get_or-drop}
 use Rattle.std.proofs.lemmas.List.Concat.{flat_map-append}
 use Rattle.std.proofs.lemmas.List.Elements.{All-push, All-drop, All-nil}
+use Rattle.abc_value.specs.declared.limits.TheConstants.{LONGEST_TEXT}
 use Rattle.abc_value.specs.Text.{IsPrintable}
 use Rattle.abc_value.specs.declared.scalar.Scalar.{Scalar}
 use Rattle.abc_value.specs.declared.scalar.Scalar.TheVariants.{Number, Text, Truth}
@@ -20,7 +21,7 @@ ends t rest = flat_map escaped t ++ 34 ∷ rest
 pub record IsTextSoFar (bytes held : List ℕ) (at : ℕ) : Type 0 where
   pub begun : 0 < at
   pub within : at ≤ length bytes
-  pub short : length held ≤ 64
+  pub short : length held ≤ LONGEST_TEXT
   pub printable : All IsPrintable held
   pub front : take at bytes ≡ 34 ∷ flat_map escaped held
   pub others : (t rest : List ℕ) → bytes ≡ 34 ∷ ends t rest → (u : List ℕ) × ((t ≡ held ++ u) × (drop at bytes ≡ ends u rest))
@@ -40,7 +41,7 @@ text_first (c ∷ bytes) e = record {
 split_piece : (bytes : List ℕ) (at b n : ℕ) → n ≤ length (drop at bytes) → take n (drop at bytes) ≡ escaped b → drop at bytes ≡ escaped b ++ drop (at + n) bytes
 split_piece bytes at b n l e = sym (take-append-drop n (drop at bytes)) ∙ (λ i. e i ++ drop-drop n at bytes i)
 
-pub text_more : (bytes held : List ℕ) (at b n : ℕ) → IsTextSoFar bytes held at → length held < 64 → IsPrintable b → n ≤ length (drop at bytes) → take n (drop at bytes) ≡ escaped b → at + n ≤ length bytes → IsTextSoFar bytes (held ++ b ∷ []) (at + n)
+pub text_more : (bytes held : List ℕ) (at b n : ℕ) → IsTextSoFar bytes held at → length held < LONGEST_TEXT → IsPrintable b → n ≤ length (drop at bytes) → take n (drop at bytes) ≡ escaped b → at + n ≤ length bytes → IsTextSoFar bytes (held ++ b ∷ []) (at + n)
 text_more bytes held at b n so room p l e w = record {
   begun = let g = so.begun in omega arith;
   within = w;
@@ -87,7 +88,7 @@ text_bad bytes held at so none y h b =
     unheld : (t u : List ℕ) → t ≡ held ++ u → All IsPrintable t → All IsPrintable u
     unheld t u e all = subst (λ l. All IsPrintable l) (ap (λ l. drop (length held) l) e ∙ drop_at held u (length held) refl) (All-drop IsPrintable (length held) t all)
 
-pub text_long : (bytes held : List ℕ) (at b n : ℕ) → IsTextSoFar bytes held at → length held ≡ 64 → n ≤ length (drop at bytes) → take n (drop at bytes) ≡ escaped b → NoScalar bytes
+pub text_long : (bytes held : List ℕ) (at b n : ℕ) → IsTextSoFar bytes held at → length held ≡ LONGEST_TEXT → n ≤ length (drop at bytes) → take n (drop at bytes) ≡ escaped b → NoScalar bytes
 text_long bytes held at b n so full l e y h s =
     only_texts bytes (first_byte bytes held at so) y h s (λ x. ⊥) (λ t i c.
     let o = so.others t c.0 (opens bytes t c) in
