@@ -2,6 +2,7 @@
 #![tactic(auto)]
 
 mod bytes;
+mod grant;
 mod laws;
 mod limits;
 mod list;
@@ -9,6 +10,7 @@ mod literal;
 mod memory;
 mod number;
 mod ops;
+mod owner;
 mod quoted;
 mod read;
 mod scalar;
@@ -18,6 +20,7 @@ mod text;
 mod value;
 
 pub use bytes::behind_first;
+pub use grant::Grant;
 pub use laws::{
     differences, least_free_numbers, limits_of_values, literals_differ, members_are_ordered,
     members_stand, same_is_equality, set_operators, sets_are_their_members, sets_of_lists, unions,
@@ -28,6 +31,7 @@ pub use list::List;
 pub use literal::{ValueRefusal, write_value};
 pub use memory::NoMemory;
 pub use ops::{add, holds, least_free, less, mul, same, set_of, size, sub, union, without};
+pub use owner::Owner;
 pub use read::read_value;
 pub use scalar::Scalar;
 pub use set::SetValue;

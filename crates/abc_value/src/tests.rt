@@ -51,8 +51,17 @@ fn operators_on_sets(rt: HostRuntime) -> Result<(), Fail> {
     assert_eq!(rt; least_free(holed.view()), Some(2));
     let copy = holed.view().to_value(alloc)?;
     assert!(rt; same(copy.view(), holed.view()), "a copy is the same value");
-    crosses(&copy);
-    crosses(&copy.view());
+    let owner = Owner::new(alloc, copy)?;
+    let other = owner.copy()?;
+    drop(owner);
+    assert!(rt;
+        same(other.get().view(), holed.view()),
+        "an owner keeps the value"
+    );
+    crosses(&other);
+    crosses(&Grant::Closed);
+    crosses(&holed);
+    crosses(&holed.view());
     crosses(&text);
     crosses(&b);
     crosses(&NoMemory);
