@@ -27,7 +27,7 @@ use Rattle.abc_grammar.specs.Programs as g
 use Rattle.abc_grammar.specs.Limits.{open_with, open_behind}
 use Rattle.abc_grammar.specs.Laws.{Balanced}
 
-open_behind-append : (ts us : List Lexeme) (n : ℕ) → open_behind n (ts ++ us) ≡ open_behind (open_behind n ts) us
+pub open_behind-append : (ts us : List Lexeme) (n : ℕ) → open_behind n (ts ++ us) ≡ open_behind (open_behind n ts) us
 open_behind-append [] us n = refl
 open_behind-append (t ∷ ts) us n = open_behind-append ts us (open_with n t)
 
@@ -42,15 +42,15 @@ closed t ts e h n = open_behind-append ts (t ∷ []) (n + 1) ∙ ap (λ m. open_
 one_less : (n : ℕ) → n + 1 - 1 ≡ n
 one_less n = omega arith
 
-listed_balance : {A : Type 0} {Item : List Lexeme → A → Type 0} {ts : List Lexeme} {items : List A} → ((us : List Lexeme) (a : A) → Item us a → Balanced us) → AreListed Item ts items → Balanced ts
+pub listed_balance : {A : Type 0} {Item : List Lexeme → A → Type 0} {ts : List Lexeme} {items : List A} → ((us : List Lexeme) (a : A) → Item us a → Balanced us) → AreListed Item ts items → Balanced ts
 listed_balance each (listed.one {ts} {a} h) = each ts a h
 listed_balance each (listed.more {ts} {us} {a = a} before h) = both ts (l.Mark m.Comma ∷ us) (listed_balance each before) (each us a h)
 
-optional_balance : {A : Type 0} {Item : List Lexeme → A → Type 0} {ts : List Lexeme} {items : List A} → ((us : List Lexeme) (a : A) → Item us a → Balanced us) → MayBeListed Item ts items → Balanced ts
+pub optional_balance : {A : Type 0} {Item : List Lexeme → A → Type 0} {ts : List Lexeme} {items : List A} → ((us : List Lexeme) (a : A) → Item us a → Balanced us) → MayBeListed Item ts items → Balanced ts
 optional_balance each listed.none = λ n. refl
 optional_balance each (listed.some h) = listed_balance each h
 
-scalar_balance : (ts : List Lexeme) (x : Scalar) → IsScalar ts x → Balanced ts
+pub scalar_balance : (ts : List Lexeme) (x : Scalar) → IsScalar ts x → Balanced ts
 scalar_balance _ _ (lit.number h) n = refl
 scalar_balance _ _ (lit.negative h) n = refl
 scalar_balance _ _ lit.text n = refl
@@ -111,7 +111,7 @@ repeated_balance : {A : Type 0} {Item : List Lexeme → A → Type 0} {ts : List
 repeated_balance each listed.none = λ n. refl
 repeated_balance each (listed.more {ts} {us} {a = a} first h) = both ts us (repeated_balance each first) (each us a h)
 
-expr_balance : {ts : List Lexeme} {a : Expr} → IsExpr ts a → Balanced ts
+pub expr_balance : {ts : List Lexeme} {a : Expr} → IsExpr ts a → Balanced ts
 expr_balance (e.operand h) = operand_balance h
 expr_balance (e.set {ts} h) = closed (l.Mark m.CloseRound) ts one_less (optional_balance (λ us a i. operand_balance i) h)
 expr_balance (e.union {ts} {us} h i) = closed (l.Mark m.CloseRound) (ts ++ l.Mark m.Comma ∷ us) one_less (both ts (l.Mark m.Comma ∷ us) (expr_balance h) (expr_balance i))
@@ -120,7 +120,7 @@ expr_balance (e.without {ts} {us} h i) = closed (l.Mark m.CloseRound) (ts ++ l.M
 name_balance : (ts : List Lexeme) (a : Name) → IsName ts a → Balanced ts
 name_balance _ _ listed.name = λ n. refl
 
-variable_balance : (ts : List Lexeme) (a : Name) → IsVariable ts a → Balanced ts
+pub variable_balance : (ts : List Lexeme) (a : Name) → IsVariable ts a → Balanced ts
 variable_balance _ _ listed.variable = λ n. refl
 
 update_balance : (ts : List Lexeme) (u : Update) → IsUpdate ts u → Balanced ts

@@ -1,6 +1,6 @@
 -- What tokens stand for.
 use Rattle.std.proofs.Common.{◌≡◌, ℕ, zero, suc, ◌+◌, ◌≤◌, ◌<◌, ◌⊎◌, inl, inr, Bool, true, false, cond, List, [], ◌∷◌, length, Option, Some, None, refl, sym, ap, ◌∙◌, subst, arith, leb-true}
-use Rattle.std.specs.Prelude.{find, take_while, nat_le, ◌==◌, ◌||◌, ◌&&◌, is_some, if◌then◌else◌}
+use Rattle.std.specs.Prelude.{find, nat_le, ◌==◌, ◌||◌, ◌&&◌, is_some, if◌then◌else◌}
 use Rattle.std.specs.List.{list_any}
 use Rattle.std.specs.Str.{bytes_eq}
 use Rattle.std.specs.Option.{option_map}
@@ -8,13 +8,13 @@ use Rattle.std.proofs.lemmas.Bool.{eqb-true, cases_order}
 use Rattle.std.proofs.lemmas.Slice.Eq.{bytes_eq-Decides}
 use Rattle.abc_text.specs.declared.lexical.TokenKind.{TokenKind}
 use Rattle.abc_text.specs.declared.lexical.TokenKind.TheVariants.{Word, Variable, Number, Text, Symbol}
-use Rattle.abc_cause.specs.declared.Cause.TheVariants.{BadByte, LongText, LongName, WideNumber}
 use Rattle.abc_text.specs.declared.lexical.Before.{Before}
 use Rattle.abc_text.specs.declared.lexical.Next.{Next}
 use Rattle.abc_text.specs.declared.lexical.Next.TheVariants.{End, Good, Bad}
 use Rattle.abc_text.specs.declared.lexical.Token.{Token}
-use Rattle.abc_text.specs.Tokens.{is_letter, is_digit, is_symbol, word_len, word_token, variable_token, number_token, text_len, text_value, closed_text, text_token, colon_token, decimal, greatest, next, is_keyword}
+use Rattle.abc_text.specs.Tokens.{is_symbol, next, is_keyword}
 use Rattle.abc_text.specs.Meanings.{spelling, StandsIn, word_of}
+use Rattle.abc_text.proofs.ByKind.{by_kind}
 use Rattle.abc_text.proofs.OfKind.{length-spelling}
 use Rattle.abc_grammar.specs.declared.lexemes.Mark.{Mark}
 use Rattle.abc_grammar.specs.declared.lexemes.Mark.TheVariants as m
@@ -160,37 +160,9 @@ IfSymbol bytes (Good Number n) = Unit {0}
 IfSymbol bytes (Good Text n) = Unit {0}
 IfSymbol bytes (Good Symbol n) = length bytes ≡ n → is_some (mark_at bytes) ≡ true
 
-either : (bs : List ℕ) (c : Bool) (x y : Next) → (c ≡ true → IfSymbol bs x) → IfSymbol bs y → IfSymbol bs (if c then x else y)
-either bs true x y f g = f refl
-either bs false x y f g = g
-
 no_more : (bs : List ℕ) → suc (length bs) ≡ 1 → bs ≡ []
 no_more [] h = refl
 no_more (b ∷ bs) h = absurd (omega arith)
-
-word_next : (bs : List ℕ) → IfSymbol bs (word_token bs)
-unfolding IfSymbol
-word_next bs = either bs (nat_le (word_len bs) 32) (Good Word (word_len bs)) (Bad LongName) (λ _. tt) tt
-
-variable_next : (b : ℕ) (bs : List ℕ) → IfSymbol (b ∷ bs) (variable_token bs)
-unfolding IfSymbol
-variable_next b [] = tt
-variable_next b (x ∷ xs) =
-    either (b ∷ (x ∷ xs)) (is_letter x) (if nat_le (word_len (x ∷ xs)) 32 then Good Variable (word_len (x ∷ xs) + 1) else Bad LongName) (Bad BadByte)
-    (λ _. either (b ∷ (x ∷ xs)) (nat_le (word_len (x ∷ xs)) 32) (Good Variable (word_len (x ∷ xs) + 1)) (Bad LongName) (λ _. tt) tt) tt
-
-number_next : (before : Before) (bs : List ℕ) → IfSymbol bs (number_token before bs)
-unfolding IfSymbol number_token
-number_next before bs = either bs (nat_le (decimal (take_while is_digit bs)) (greatest before)) (Good Number (length (take_while is_digit bs))) (Bad WideNumber) (λ _. tt) tt
-
-closed_next : (bs : List ℕ) (size : ℕ) (o : Option ℕ) → IfSymbol bs (closed_text size o)
-unfolding IfSymbol
-closed_next bs size None = tt
-closed_next bs size (Some n) = either bs (nat_le size 64) (Good Text (n + 1)) (Bad LongText) (λ _. tt) tt
-
-text_next : (b : ℕ) (bs : List ℕ) → IfSymbol (b ∷ bs) (text_token bs)
-unfolding text_token
-text_next b bs = closed_next (b ∷ bs) (length (text_value false bs)) (text_len false bs)
 
 becomes : (b x : ℕ) (xs : List ℕ) → (b == 58) ≡ true → (x == 61) ≡ true → length (b ∷ (x ∷ xs)) ≡ 2 → is_some (mark_at (b ∷ (x ∷ xs))) ≡ true
 unfolding mark_at
@@ -200,25 +172,13 @@ becomes b x xs hb hx e =
     let er : xs ≡ [] = no_more xs (omega (arith, e)) in
     rw (eb, ex, er) refl
 
-colon_next : (b : ℕ) (bs : List ℕ) → (b == 58) ≡ true → IfSymbol (b ∷ bs) (colon_token bs)
-unfolding IfSymbol
-colon_next b [] h = tt
-colon_next b (x ∷ xs) h = either (b ∷ (x ∷ xs)) (x == 61) (Good Symbol 2) (Bad BadByte) (λ hx e. becomes b x xs h hx e) tt
-
 one_next : (b : ℕ) (bs : List ℕ) → is_symbol b ≡ true → IfSymbol (b ∷ bs) (Good Symbol 1)
 unfolding IfSymbol IsOneMark
 one_next b bs h e = let er : bs ≡ [] = no_more bs (omega (arith, e)) in rw er (one_mark b h)
 
 symbol_next : (before : Before) (bytes : List ℕ) → IfSymbol bytes (next before bytes)
-unfolding next IfSymbol
-symbol_next before [] = tt
-symbol_next before (b ∷ bs) =
-    either (b ∷ bs) (is_letter b) _ _ (λ _. word_next (b ∷ bs))
-    (either (b ∷ bs) (b == 36) _ _ (λ _. variable_next b bs)
-    (either (b ∷ bs) (is_digit b) _ _ (λ _. number_next before (b ∷ bs))
-    (either (b ∷ bs) (b == 34) _ _ (λ _. text_next b bs)
-    (either (b ∷ bs) (is_symbol b) _ _ (λ h. one_next b bs h)
-    (either (b ∷ bs) (b == 58) _ _ (λ h. colon_next b bs h) tt)))))
+unfolding IfSymbol
+symbol_next before = by_kind before IfSymbol tt (λ _ _ _. tt) (λ _ _ _. tt) (λ _ _ _. tt) (λ _ _. tt) (λ _ _ _ _ _. tt) one_next becomes
 
 symbols_are_marks : (bytes : List ℕ) (t : Token) → StandsIn bytes t → t.kind ≡ Symbol → is_some (mark_at (spelling bytes t)) ≡ true
 unfolding IfSymbol

@@ -9,9 +9,14 @@ pub mod OneRefusal
 pub mod ProcessRuns
 pub mod ProgramRuns
 pub mod LexemesMeant
+pub mod Commas
+pub mod Short
 pub mod Worked
+pub mod WorkedLimits
+pub mod WorkedOrder
 pub mod FactsAlike
 pub mod OneText
 pub mod Counted
 pub mod Signs
+pub mod TokenSigns
 pub mod WorkedThrough

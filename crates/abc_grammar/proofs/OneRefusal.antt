@@ -1,12 +1,14 @@
 -- The first cause against a text is one.
-use Rattle.std.proofs.Common.{◌≡◌, ℕ, zero, suc, ◌<◌, ◌⊎◌, inl, inr, List, [], ◌∷◌, Option, Some, None, refl, ap, sym, ◌∙◌, subst}
+use Rattle.std.proofs.Common.{◌≡◌, ℕ, zero, suc, ◌<◌, ◌⊎◌, inl, inr, List, [], ◌∷◌, Option, Some, None, refl, ap, sym, ◌∙◌, subst, arith}
 use Rattle.std.specs.Prelude.{IsSomeAnd, slice_get}
 use Rattle.std.proofs.lemmas.Bool.{cases_order}
 use Rattle.abc_cause.specs.declared.Cause.{Cause}
 use Rattle.abc_cause.specs.declared.Cause.TheVariants as cause
 use Rattle.abc_text.specs.declared.lexical.Fault.{Fault}
+use Rattle.abc_text.specs.Tokens.{IsLexical}
 use Rattle.abc_grammar.specs.declared.lexemes.Lexeme.{Lexeme}
 use Rattle.abc_grammar.specs.Refusals.{order, Applies, IsFirstCause}
+use Rattle.abc_grammar.specs.Laws.{ComesFirst, CausesInOrder}
 
 -- a bad token has one cause
 one_fault : (fault : Option Fault) (c d : Cause) → IsSomeAnd fault (λ f. f.cause ≡ c) → IsSomeAnd fault (λ f. f.cause ≡ d) → c ≡ d
@@ -64,3 +66,30 @@ module _ (IsWhole : List Lexeme → Type 0) (IsOneTooMany : List Lexeme → ℕ 
       (ts : List Lexeme) (fault : Option Fault) (c d : Cause) (j k : ℕ) →
       IsFirstCause IsWhole IsOneTooMany ts fault c j → IsFirstCause IsWhole IsOneTooMany ts fault d k → (c ≡ d) × (j ≡ k)
   one_refusal ts fault c d j k h i = by_place ts fault c d j k (cases_order j k) h i
+
+-- ---- the order
+-- a cause of tokens comes first of all
+pub order-lexical : (c : Cause) → IsLexical c → order c ≡ 0
+order-lexical cause.BadByte h = refl
+order-lexical cause.BadText h = refl
+order-lexical cause.LongText h = refl
+order-lexical cause.LongName h = refl
+order-lexical cause.WideNumber h = refl
+order-lexical cause.Syntax h = absurd h
+order-lexical cause.TooDeep h = absurd h
+order-lexical cause.TooLarge h = absurd h
+order-lexical cause.LongTuple h = absurd h
+order-lexical cause.LongSet h = absurd h
+order-lexical (cause.Check d) h = absurd h
+
+comes_first : (c d : Cause) → order c < order d → ComesFirst c d
+comes_first c d lt = record { programs = λ ts fault k applies h. h.first c lt applies; preds = λ ts fault k applies h. h.first c lt applies }
+
+pub causes_in_order : CausesInOrder
+causes_in_order = record {
+  lexical = λ c h. comes_first c cause.Syntax (let e = order-lexical c h in omega (arith, e));
+  syntax_first = comes_first cause.Syntax cause.TooDeep (omega arith);
+  deep = comes_first cause.TooDeep cause.TooLarge (omega arith);
+  large = comes_first cause.TooLarge cause.LongTuple (omega arith);
+  long = comes_first cause.LongTuple cause.LongSet (omega arith);
+}

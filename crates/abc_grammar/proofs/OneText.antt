@@ -18,9 +18,11 @@ use Rattle.abc_grammar.specs.Preds.{IsPred}
 use Rattle.abc_grammar.specs.Plain.{PlainProgram, plain_program}
 use Rattle.abc_grammar.specs.Programs.{IsProgram}
 use Rattle.abc_grammar.specs.Limits.{At, IsTooLarge}
-use Rattle.abc_grammar.specs.Sizes.{BeginsExtraToken}
+use Rattle.abc_grammar.specs.Limits.{BeginsExtraToken}
 use Rattle.abc_grammar.specs.Refusals.{IsSomePred, IsSomeProgram, PassesLimit, IsWithin, GoesOn, Applies, IsFirstOfProgram, IsFirstOfPred, place_at}
-use Rattle.abc_grammar.specs.Fronts.{names_behind, front_end, IsScanned, IsFront, IsLongest, BeginsWithPred, BeginsWithNoPred}
+use Rattle.abc_text.specs.Meanings.{names_behind}
+use Rattle.abc_grammar.specs.Scanned.{IsScanned}
+use Rattle.abc_grammar.specs.Fronts.{front_end, IsFront, IsLongest, BeginsWithPred, BeginsWithNoPred}
 use Rattle.abc_grammar.specs.Accepted.{IsTextOf, IsAccepted, IsNoText, IsUnchecked, IsRefused, site_place}
 use Rattle.abc_grammar.specs.TextLaws.{FrontsAreOne, AreAlike, TextsAreOne}
 use Rattle.abc_grammar.proofs.PredRuns.{one_pred}

@@ -29,11 +29,11 @@ use Rattle.abc_grammar.specs.Sizes.{ends_operand, is_minus}
 use Rattle.abc_grammar.specs.SignLaws.{signs, scalar_signs, listed_signs, optional_signs, repeated_signs, name_signs, variable_signs, literal_signs, operand_signs, product_signs, atom_signs, expr_signs, pred_signs, both_signs, test_signs, update_signs, process_signs, choice_signs, prefix_signs, after_signs, definition_signs, initial_signs, component_signs, program_signs, SignsAreOfLiterals}
 
 -- whether an operand may end with the last of these tokens
-abbrev ends : Bool → List Lexeme → Bool
+abbrev pub ends : Bool → List Lexeme → Bool
 ends behind [] = behind
 ends behind (t ∷ ts) = ends (ends_operand t) ts
 
-signs-append : (ts us : List Lexeme) (b : Bool) → signs b (ts ++ us) ≡ signs b ts ++ signs (ends b ts) us
+pub signs-append : (ts us : List Lexeme) (b : Bool) → signs b (ts ++ us) ≡ signs b ts ++ signs (ends b ts) us
 signs-append [] us b = refl
 signs-append (t ∷ ts) us b = ap (λ fs. (is_minus t && not b) ∷ fs) (signs-append ts us (ends_operand t))
 

@@ -33,7 +33,7 @@ use Rattle.abc_grammar.specs.Processes as q
 use Rattle.abc_grammar.specs.Programs as g
 use Rattle.abc_term.specs.Processes as P
 use Rattle.abc_grammar.specs.Limits.{At, Begins, opens, starts_item, IsTooLarge}
-use Rattle.abc_grammar.specs.Sizes.{BeginsExtraToken}
+use Rattle.abc_grammar.specs.Limits.{BeginsExtraToken}
 use Rattle.abc_grammar.specs.Refusals.{order, Applies, PassesLimit, IsSomePred, IsSomeProgram}
 use Rattle.abc_grammar.specs.Fronts.{IsFront}
 use Rattle.abc_grammar.specs.Examples.{a, b, K, number, attr_a, name, InIn, Becomes007, MinusMinusOne, ToTheLeft, NotToTheRight, SumTimesSize, TwoSigns, PlusNothing, SizeOfUnion, LeastNumber, TooGreat, Precedence, RoundBrackets, ChoiceAndPar, OneIsNone, SmallProgram, BracketsOf101, BracketsOf100, ones, run_a, variables, NinthExpr, NinthVariable, ExtraScalar, ExtraToken, SizeFive, FrontOfOne, NoFront, HeaderOfThree, Arrow}
@@ -52,13 +52,13 @@ unfolding keyword_at mark_at is_keyword
 becomes_007 = refl
 
 -- ---- operands
-one : IsAtom (l.Number 1 ∷ []) (number 1)
+pub one : IsAtom (l.Number 1 ∷ []) (number 1)
 one = o.literal (lit.scalar (lit.number {n = 1} refl))
 
-two : IsAtom (l.Number 2 ∷ []) (number 2)
+pub two : IsAtom (l.Number 2 ∷ []) (number 2)
 two = o.literal (lit.scalar (lit.number {n = 2} refl))
 
-operand : {ts : List Lexeme} {x : t.Operand} → IsAtom ts x → IsOperand ts x
+pub operand : {ts : List Lexeme} {x : t.Operand} → IsAtom ts x → IsOperand ts x
 operand h = o.product (o.atom h)
 
 pub minus_minus_one : MinusMinusOne
@@ -211,7 +211,7 @@ extra_scalar before t = record {
 }
 
 -- none of many equal tokens starts a definition or a component
-no_start : (n i : ℕ) → ¬ At (replicate n (l.Number 0)) i starts_item
+pub no_start : (n i : ℕ) → ¬ At (replicate n (l.Number 0)) i starts_item
 no_start zero i h = absurd h
 no_start (suc n) zero h = cc
 no_start (suc n) (suc i) h = no_start n i h

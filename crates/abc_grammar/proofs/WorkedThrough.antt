@@ -1,19 +1,14 @@
 -- Whole texts worked through the definitions.
-use Rattle.std.proofs.Common.{◌≡◌, ℕ, zero, suc, ◌+◌, ◌-◌, ◌*◌, ◌<◌, ◌≤◌, ◌⊎◌, inl, inr, Bool, true, false, List, [], ◌∷◌, ◌++◌, length, take, None, refl, ap, arith, length-append, length-take-le}
-use Rattle.std.specs.Prelude.{codes, if◌then◌else◌}
-use Rattle.std.proofs.lemmas.List.{take_all}
-use Rattle.std.proofs.lemmas.Bool.{cases_lt}
-use Rattle.abc_value.specs.declared.scalar.Scalar.{Scalar}
+use Rattle.std.proofs.Common.{ℕ, zero, suc, ◌<◌, List, [], ◌∷◌, ◌++◌, None, refl, arith}
+use Rattle.std.specs.Prelude.{codes}
 use Rattle.abc_pred.specs.declared.names.Name.{Name}
-use Rattle.abc_pred.specs.Terms.{Expr}
-use Rattle.abc_cause.specs.declared.Cause.{Cause}
-use Rattle.abc_cause.specs.declared.Cause.TheVariants as cause
 use Rattle.abc_cause.specs.declared.CheckCause.{CheckCause}
 use Rattle.abc_cause.specs.declared.CheckCause.TheVariants as check
 use Rattle.abc_text.specs.declared.lexical.TokenKind.TheVariants.{Word, Number, Symbol}
 use Rattle.abc_text.specs.declared.lexical.Token.{Token}
 use Rattle.abc_text.specs.Tokens.{skip, is_keyword, is_literal_word, number_token, text_token, next, stands_after, Reads}
 use Rattle.abc_term.specs.declared.terms.Program.{Program}
+use Rattle.abc_term.specs.Processes as term
 use Rattle.abc_checks.specs.declared.causes.Site.{Site}
 use Rattle.abc_checks.specs.declared.causes.Site.TheVariants.{Definition, Component, Whole}
 use Rattle.abc_checks.specs.Sites.{AtSite, ComesBefore}
@@ -23,86 +18,15 @@ use Rattle.abc_grammar.specs.declared.lexemes.Lexeme.TheVariants as l
 use Rattle.abc_grammar.specs.declared.lexemes.Mark.TheVariants as m
 use Rattle.abc_grammar.specs.declared.lexemes.Keyword.TheVariants as k
 use Rattle.abc_grammar.specs.Lexemes.{keyword_at, mark_at}
-use Rattle.abc_grammar.specs.Listed.{AreListed, IsVariable}
 use Rattle.abc_grammar.specs.Listed as listed
-use Rattle.abc_grammar.specs.Literals.{IsScalar}
-use Rattle.abc_grammar.specs.Literals as lit
-use Rattle.abc_grammar.specs.Exprs.{IsExpr}
 use Rattle.abc_grammar.specs.Processes as q
 use Rattle.abc_grammar.specs.Programs as g
-use Rattle.abc_grammar.specs.Limits.{opens, closes, open_with, open_behind, IsTooLarge}
-use Rattle.abc_grammar.specs.Refusals.{IsSomeProgram, PassesLimit, IsWithin}
+use Rattle.abc_grammar.specs.Plain.{plain_component}
 use Rattle.abc_grammar.specs.Accepted.{IsTextOf}
 use Rattle.abc_grammar.specs.Examples.{token}
-use Rattle.abc_grammar.specs.WorkedTexts.{idle_text, idle_tokens, idle, WorkedTexts}
-use Rattle.abc_grammar.proofs.ExprRuns.{ExprCame, expr_came}
+use Rattle.abc_grammar.specs.WorkedTexts.{idle_text, idle_tokens, idle_component, idle, double_definition, double_definition_tokens, twice_defined, double_component, double_component_tokens, twice_composed, WorkedTexts}
+use Rattle.abc_grammar.proofs.Short.{short_within}
 use Rattle.abc_grammar.proofs.Worked.{header_of_three}
-
--- ---- a text of fewer than 17 tokens passes no limit
-open_step : (b c : Bool) (n : ℕ) → (if b then n + 1 else (if c then n - 1 else n)) ≤ n + 1
-open_step true c n = omega arith
-open_step false true n = omega arith
-open_step false false n = omega arith
-
-few_open : (ts : List Lexeme) (n : ℕ) → open_behind n ts ≤ n + length ts
-few_open [] n = omega arith
-few_open (t ∷ ts) n = let more = few_open ts (open_with n t) in let one = open_step (opens t) (closes t) n in omega (arith, more, one)
-
-take-short : (k : ℕ) (ts : List Lexeme) → length (take k ts) ≤ length ts
-take-short k ts = by (cases_lt k (length ts))
-  where
-    by : (k < length ts) ⊎ (length ts ≤ k) → length (take k ts) ≤ length ts
-    by (inl lt) = let long = length-take-le k ts (omega arith) in omega (arith, long)
-    by (inr le) = let long = ap length (take_all k ts le) in omega (arith, long)
-
--- items of at least one token each
-long_list : {A : Type 0} {Item : List Lexeme → A → Type 0} {ts : List Lexeme} {items : List A} → ((us : List Lexeme) (a : A) → Item us a → 1 ≤ length us) → AreListed Item ts items → 2 * length items ≤ length ts + 1
-long_list each (listed.one {ts} {a} h) = let one = each ts a h in omega (arith, one)
-long_list {A} each (listed.more {ts} {us} {items} {a} first h) =
-    let before = long_list each first in
-    let one = each us a h in
-    omega (arith, before, one, length-append ts (l.Mark m.Comma ∷ us), length-append {A = A} items (a ∷ []))
-
-expr_long : (ts : List Lexeme) (a : Expr) → IsExpr ts a → 1 ≤ length ts
-expr_long [] a h = let c : ExprCame [] a = expr_came h in let runs = c.runs in let whole = c.whole in absurd (cc)
-expr_long (t ∷ ts) a h = omega arith
-
-variable_long : (ts : List Lexeme) (a : Name) → IsVariable ts a → 1 ≤ length ts
-variable_long _ _ listed.variable = omega arith
-
-scalar_long : (ts : List Lexeme) (a : Scalar) → IsScalar ts a → 1 ≤ length ts
-scalar_long _ _ (lit.number h) = omega arith
-scalar_long _ _ (lit.negative h) = omega arith
-scalar_long _ _ lit.text = omega arith
-scalar_long _ _ lit.yes = omega arith
-scalar_long _ _ lit.no = omega arith
-
-listed_front : (k : ℕ) (ts before parts : List Lexeme) (t u : Lexeme) → length ts < 17 → take k ts ≡ before ++ t ∷ parts ++ u ∷ [] → length parts < 15
-listed_front k ts before parts t u short e =
-    let lengths = ap length e in
-    let whole = take-short k ts in
-    omega (arith, lengths, whole, length-append (before ++ t ∷ parts) (u ∷ []), length-append before (t ∷ parts))
-
-no_limit : (c : Cause) (ts : List Lexeme) (k : ℕ) → length ts < 17 → ¬ PassesLimit IsSomeProgram IsTooLarge c ts k
-no_limit cause.TooDeep ts k short h = let full = h.full in let few = few_open (take k ts) 0 in let whole = take-short k ts in absurd (omega (arith, full, few, whole))
-no_limit cause.TooLarge ts k short h = let e = h.counted in let x = h.exists in absurd (omega (arith, e, x))
-no_limit cause.LongTuple ts k short h =
-    elim h [
-      | inl x ↦ (let few = listed_front k ts x.before x.parts _ _ short x.stands in let long = long_list expr_long x.listed in let full = x.full in absurd (omega (arith, few, long, full)))
-      | inr x ↦ (let few = listed_front k ts x.before x.parts _ _ short x.stands in let long = long_list variable_long x.listed in let full = x.full in absurd (omega (arith, few, long, full)))
-    ]
-no_limit cause.LongSet ts k short h =
-    let few = listed_front k ts h.before h.parts _ _ short h.stands in let long = long_list scalar_long h.listed in let full = h.full in absurd (omega (arith, few, long, full))
-no_limit cause.BadByte ts k short h = h
-no_limit cause.BadText ts k short h = h
-no_limit cause.LongText ts k short h = h
-no_limit cause.LongName ts k short h = h
-no_limit cause.WideNumber ts k short h = h
-no_limit cause.Syntax ts k short h = h
-no_limit (cause.Check c) ts k short h = h
-
-short_within : (ts : List Lexeme) (n : ℕ) → length ts < 17 → IsWithin IsSomeProgram IsTooLarge ts n
-short_within ts n short k below c h = no_limit c ts k short h
 
 -- ---- one component
 idle_reads : Reads idle_text idle_tokens None
@@ -147,7 +71,7 @@ idle_is = record {
       {us = l.Keyword k.Comp ∷ l.Name (record { 0 = 0 }) ∷ l.Mark m.OpenCurly ∷ l.Keyword k.Show ∷ l.Mark m.Semicolon ∷ l.Keyword k.Run ∷ l.Number 0 ∷ l.Mark m.Semicolon ∷ l.Mark m.CloseCurly ∷ []}
       listed.none
       (listed.more {ts = []} listed.none (g.component {c = record { 0 = 0 }} {ts = []} {us = []} {vs = l.Number 0 ∷ []} listed.none listed.none (q.choice (q.prefix q.nil))));
-  within = short_within idle_lexemes 12 (omega arith);
+  within = short_within idle_lexemes 12 (omega arith) (omega arith);
   names = refl;
 }
 
@@ -186,7 +110,7 @@ nothing_is = record {
   lexemes = l.Keyword k.Abc ∷ l.Number 1 ∷ l.Mark m.Semicolon ∷ [];
   scanned = record { read = (record { token = refl; place = refl }, (record { token = refl; place = refl }, (record { token = refl; place = refl }, refl))); meant = refl };
   grammar = g.headed_1 {ts = []} {us = []} listed.none listed.none;
-  within = short_within (l.Keyword k.Abc ∷ l.Number 1 ∷ l.Mark m.Semicolon ∷ []) 3 (omega arith);
+  within = short_within (l.Keyword k.Abc ∷ l.Number 1 ∷ l.Mark m.Semicolon ∷ []) 3 (omega arith) (omega arith);
   names = refl;
 }
 
@@ -216,13 +140,181 @@ nothing_first : IsFirstFact nothing check.NoComponent Whole
 unfolding nothing
 nothing_first = record { holds = refl; first_cause = earlier_causes; first_site = earlier_sites }
 
+-- ---- a name twice
+double_definition_reads : Reads double_definition double_definition_tokens None
+unfolding skip is_keyword is_literal_word number_token text_token next stands_after
+double_definition_reads = (
+  record { token = refl; place = refl },
+  (
+    record { token = refl; place = refl },
+    (
+      record { token = refl; place = refl },
+      (
+        record { token = refl; place = refl },
+        (
+          record { token = refl; place = refl },
+          (
+            record { token = refl; place = refl },
+            (
+              record { token = refl; place = refl },
+              (
+                record { token = refl; place = refl },
+                (
+                  record { token = refl; place = refl },
+                  (
+                    record { token = refl; place = refl },
+                    (
+                      record { token = refl; place = refl },
+                      (
+                        record { token = refl; place = refl },
+                        (record { token = refl; place = refl }, refl),
+                      ),
+                    ),
+                  ),
+                ),
+              ),
+            ),
+          ),
+        ),
+      ),
+    ),
+  ),
+)
+
+abbrev nil_definition : List Lexeme
+nil_definition = l.Keyword k.Def ∷ l.Name (record { 0 = 0 }) ∷ l.Mark m.Equal ∷ l.Number 0 ∷ l.Mark m.Semicolon ∷ []
+
+nil_defined : g.IsDefinition nil_definition (record { 0 = 0 }, term.Nil)
+nil_defined = g.definition {c = record { 0 = 0 }} {ts = l.Number 0 ∷ []} (q.choice (q.prefix q.nil))
+
+abbrev double_definition_lexemes : List Lexeme
+double_definition_lexemes = l.Keyword k.Abc ∷ l.Number 1 ∷ l.Mark m.Semicolon ∷ nil_definition ++ nil_definition
+
+double_definition_is : IsTextOf double_definition double_definition_tokens twice_defined
+unfolding keyword_at mark_at is_keyword
+double_definition_is = record {
+  lexemes = double_definition_lexemes;
+  scanned = record { read = double_definition_reads; meant = refl };
+  grammar = g.headed_1 {ts = nil_definition ++ nil_definition} {us = []}
+      (listed.more {ts = nil_definition} {us = nil_definition} {items = (record { 0 = 0 }, term.Nil) ∷ []} (listed.more {ts = []} {us = nil_definition} {items = []} listed.none nil_defined) nil_defined)
+      listed.none;
+  within = short_within double_definition_lexemes 13 (omega arith) (omega arith);
+  names = refl;
+}
+
+-- the first site of a fact of definitions is the second one, where the first has it not
+second_definition : (n c : ℕ) (D C : ℕ → Type 0) → ¬ D 0 → (s : Site) → ComesBefore s (Definition 1) → ¬ AtSite n c D C s
+second_definition n c D C none (Definition zero) before h = none h.1
+second_definition n c D C none (Definition (suc i)) before h = absurd (omega (arith, before))
+second_definition n c D C none (Component i) before h = before
+second_definition n c D C none Whole before h = before
+
+second_component : (c : ℕ) (D C : ℕ → Type 0) → ¬ C 0 → (s : Site) → ComesBefore s (Component 1) → ¬ AtSite 0 c D C s
+second_component c D C none (Definition i) before h = let lt = h.0 in absurd (omega (arith, lt))
+second_component c D C none (Component zero) before h = none h.1
+second_component c D C none (Component (suc i)) before h = absurd (omega (arith, before))
+second_component c D C none Whole before h = before
+
+twice_defined_first : IsFirstFact twice_defined check.DoubleName (Definition 1)
+twice_defined_first = record {
+  holds = (omega arith, refl);
+  first_cause = λ d lt s h. absurd (omega (arith, lt));
+  first_site = second_definition 2 0 _ _ (λ h. (cc));
+}
+
+double_component_reads : Reads double_component double_component_tokens None
+unfolding skip is_keyword is_literal_word number_token text_token next stands_after
+double_component_reads = (
+  record { token = refl; place = refl },
+  (
+    record { token = refl; place = refl },
+    (
+      record { token = refl; place = refl },
+      (
+        record { token = refl; place = refl },
+        (
+          record { token = refl; place = refl },
+          (
+            record { token = refl; place = refl },
+            (
+              record { token = refl; place = refl },
+              (
+                record { token = refl; place = refl },
+                (
+                  record { token = refl; place = refl },
+                  (
+                    record { token = refl; place = refl },
+                    (
+                      record { token = refl; place = refl },
+                      (
+                        record { token = refl; place = refl },
+                        (
+                          record { token = refl; place = refl },
+                          (
+                            record { token = refl; place = refl },
+                            (
+                              record { token = refl; place = refl },
+                              (
+                                record { token = refl; place = refl },
+                                (
+                                  record { token = refl; place = refl },
+                                  (
+                                    record { token = refl; place = refl },
+                                    (record { token = refl; place = refl }, (record { token = refl; place = refl }, (record { token = refl; place = refl }, refl))),
+                                  ),
+                                ),
+                              ),
+                            ),
+                          ),
+                        ),
+                      ),
+                    ),
+                  ),
+                ),
+              ),
+            ),
+          ),
+        ),
+      ),
+    ),
+  ),
+)
+
+abbrev idle_comp : List Lexeme
+idle_comp =
+    l.Keyword k.Comp ∷ l.Name (record { 0 = 0 }) ∷ l.Mark m.OpenCurly ∷ l.Keyword k.Show ∷ l.Mark m.Semicolon ∷ l.Keyword k.Run ∷ l.Number 0 ∷ l.Mark m.Semicolon ∷ l.Mark m.CloseCurly ∷ []
+
+idle_composed : g.IsComponent idle_comp (plain_component idle_component)
+idle_composed = g.component {c = record { 0 = 0 }} {ts = []} {us = []} {vs = l.Number 0 ∷ []} listed.none listed.none (q.choice (q.prefix q.nil))
+
+abbrev double_component_lexemes : List Lexeme
+double_component_lexemes = l.Keyword k.Abc ∷ l.Number 1 ∷ l.Mark m.Semicolon ∷ idle_comp ++ idle_comp
+
+double_component_is : IsTextOf double_component double_component_tokens twice_composed
+unfolding keyword_at mark_at is_keyword
+double_component_is = record {
+  lexemes = double_component_lexemes;
+  scanned = record { read = double_component_reads; meant = refl };
+  grammar = g.headed_1 {ts = []} {us = idle_comp ++ idle_comp} listed.none
+      (listed.more {ts = idle_comp} {us = idle_comp} {items = plain_component idle_component ∷ []} (listed.more {ts = []} {us = idle_comp} {items = []} listed.none idle_composed) idle_composed);
+  within = short_within double_component_lexemes 21 (omega arith) (omega arith);
+  names = refl;
+}
+
+twice_composed_first : IsFirstFact twice_composed check.DoubleName (Component 1)
+twice_composed_first = record {
+  holds = (omega arith, refl);
+  first_cause = λ d lt s h. absurd (omega (arith, lt));
+  first_site = second_component 2 _ _ (λ h. (cc));
+}
+
 -- ---- another header
 header_reads : Reads (codes "abc 3;") header_tokens None
 unfolding header_tokens skip is_keyword is_literal_word number_token text_token next stands_after
 header_reads = (record { token = refl; place = refl }, (record { token = refl; place = refl }, (record { token = refl; place = refl }, refl)))
 
 pub worked_texts : WorkedTexts
-unfolding header_tokens keyword_at mark_at is_keyword
+unfolding header_tokens keyword_at mark_at is_keyword double_definition_is double_component_is
 worked_texts = record {
   one_component = record { text = idle_is; checked = idle_checked };
   header_of_three = record {
@@ -240,6 +332,22 @@ worked_texts = record {
     text = nothing_is;
     site = Whole;
     first = nothing_first;
+    stands = refl;
+  };
+  second_definition = record {
+    tokens = double_definition_tokens;
+    program = twice_defined;
+    text = double_definition_is;
+    site = Definition 1;
+    first = twice_defined_first;
+    stands = refl;
+  };
+  second_component = record {
+    tokens = double_component_tokens;
+    program = twice_composed;
+    text = double_component_is;
+    site = Component 1;
+    first = twice_composed_first;
     stands = refl;
   };
 }

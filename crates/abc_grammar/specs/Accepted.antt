@@ -17,7 +17,7 @@ use Rattle.abc_grammar.specs.Plain.{plain_program}
 use Rattle.abc_grammar.specs.Programs.{IsProgram}
 use Rattle.abc_grammar.specs.Limits.{IsTooLarge}
 use Rattle.abc_grammar.specs.Refusals.{IsSomeProgram, IsWithin, IsFirstOfProgram, place_at}
-use Rattle.abc_grammar.specs.Fronts.{IsScanned}
+use Rattle.abc_grammar.specs.Scanned.{IsScanned}
 
 -- ---- the program of a text
 -- The tokens of the text to its end are this program, within the limits; no word has a number before.

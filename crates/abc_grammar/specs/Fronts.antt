@@ -1,16 +1,15 @@
 -- The longest front of a text that is a predicate.
-use Rattle.std.specs.Prelude.{◌≡◌, ℕ, ◌+◌, ◌-◌, ◌≤◌, List, length, take, fold, slice_get, Option}
+use Rattle.std.specs.Prelude.{◌≡◌, ℕ, ◌+◌, ◌-◌, ◌≤◌, List, length, take, slice_get, Option}
 use Rattle.std.specs.Option.{option_map_or}
 use Rattle.abc_pred.specs.Terms.{Pred}
 use Rattle.abc_cause.specs.declared.Cause.{Cause}
 use Rattle.abc_text.specs.declared.lexical.Token.{Token}
 use Rattle.abc_text.specs.declared.lexical.Fault.{Fault}
-use Rattle.abc_text.specs.Tokens.{Reads}
-use Rattle.abc_text.specs.Meanings.{named, with_named}
+use Rattle.abc_text.specs.Meanings.{names_behind}
 use Rattle.abc_grammar.specs.declared.lexemes.Lexeme.{Lexeme}
-use Rattle.abc_grammar.specs.Lexemes.{lexemes_of}
+use Rattle.abc_grammar.specs.Scanned.{IsScanned}
 use Rattle.abc_grammar.specs.Preds.{IsPred}
-use Rattle.abc_grammar.specs.Sizes.{BeginsExtraToken}
+use Rattle.abc_grammar.specs.Limits.{BeginsExtraToken}
 use Rattle.abc_grammar.specs.Refusals.{IsSomePred, IsWithin, IsFirstOfPred, place_at}
 
 -- The first n tokens are this predicate, and pass no limit.
@@ -28,18 +27,9 @@ abbrev pub HasNoFront : List Lexeme → Type 0
 HasNoFront ts = (m : ℕ) (q : Pred) → ¬ IsFront ts m q
 
 -- ---- of bytes
--- the words that have numbers once these tokens have been read, where these had numbers before
-abbrev pub names_behind : List (List ℕ) → List ℕ → List Token → List (List ℕ)
-names_behind words bytes ts = fold (λ known t. with_named known (named bytes t)) words ts
-
 -- where the first n tokens end
 abbrev pub front_end : List Token → ℕ → ℕ
 front_end ts n = option_map_or (λ t. t.place + t.len) (slice_get ts (n - 1)) 0
-
--- a text as its tokens and what they stand for, where these words have numbers before
-pub record IsScanned (words : List (List ℕ)) (bytes : List ℕ) (ts : List Token) (fault : Option Fault) (ls : List Lexeme) : Type 0 where
-  pub read : Reads bytes ts fault
-  pub meant : ls ≡ lexemes_of (names_behind words bytes ts) bytes ts
 
 -- The bytes begin with this predicate: the longest front of their tokens that is one is it, it ends at `size`, and the
 -- words that it names first have the next numbers.

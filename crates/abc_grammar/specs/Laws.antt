@@ -1,7 +1,9 @@
 -- Laws of the grammar and of refusals.
 use Rattle.std.specs.Prelude.{◌≡◌, ℕ, List, Option}
 use Rattle.abc_cause.specs.declared.Cause.{Cause}
+use Rattle.abc_cause.specs.declared.Cause.TheVariants as cause
 use Rattle.abc_text.specs.declared.lexical.Fault.{Fault}
+use Rattle.abc_text.specs.Tokens.{IsLexical}
 use Rattle.abc_pred.specs.Terms.{Operand, Expr, Pred}
 use Rattle.abc_term.specs.Processes.{Process}
 use Rattle.abc_grammar.specs.declared.lexemes.Lexeme.{Lexeme}
@@ -11,8 +13,8 @@ use Rattle.abc_grammar.specs.Preds.{IsPred}
 use Rattle.abc_grammar.specs.Plain.{PlainProgram}
 use Rattle.abc_grammar.specs.Processes.{IsProcess}
 use Rattle.abc_grammar.specs.Programs.{IsProgram}
-use Rattle.abc_grammar.specs.Limits.{open_behind}
-use Rattle.abc_grammar.specs.Refusals.{IsFirstOfProgram, IsFirstOfPred}
+use Rattle.abc_grammar.specs.Limits.{open_behind, IsTooLarge, BeginsExtraToken}
+use Rattle.abc_grammar.specs.Refusals.{Applies, IsSomeProgram, IsSomePred, IsFirstOfProgram, IsFirstOfPred}
 
 -- ---- one term
 -- A list of tokens is at most one operand, one expression, one predicate.
@@ -46,6 +48,20 @@ pub record TermsBalance : Type 0 where
 abbrev pub OneRefusal : (List Lexeme → Option Fault → Cause → ℕ → Type 0) → Type 0
 OneRefusal IsFirst =
     (ts : List Lexeme) (fault : Option Fault) (c d : Cause) (j k : ℕ) → IsFirst ts fault c j → IsFirst ts fault d k → (c ≡ d) × (j ≡ k)
+
+-- ---- the order of causes
+-- Where both causes apply at one token, no text is refused there for the second one.
+pub record ComesFirst (c d : Cause) : Type 0 where
+  pub programs : (ts : List Lexeme) (fault : Option Fault) (k : ℕ) → Applies IsSomeProgram IsTooLarge c ts fault k → ¬ IsFirstOfProgram ts fault d k
+  pub preds : (ts : List Lexeme) (fault : Option Fault) (k : ℕ) → Applies IsSomePred BeginsExtraToken c ts fault k → ¬ IsFirstOfPred ts fault d k
+
+-- The order: the fault of the token, that it is wrong there, brackets, tokens, expressions and variables, scalars.
+pub record CausesInOrder : Type 0 where
+  pub lexical : (c : Cause) → IsLexical c → ComesFirst c cause.Syntax
+  pub syntax_first : ComesFirst cause.Syntax cause.TooDeep
+  pub deep : ComesFirst cause.TooDeep cause.TooLarge
+  pub large : ComesFirst cause.TooLarge cause.LongTuple
+  pub long : ComesFirst cause.LongTuple cause.LongSet
 
 pub record RefusalsAreOne : Type 0 where
   pub programs : OneRefusal IsFirstOfProgram

@@ -80,7 +80,7 @@ abbrev pub word_lexeme : List (List ℕ) → List ℕ → Option Keyword → Lex
 word_lexeme words word (Some k) = l.Keyword k
 word_lexeme words word None = l.Name (name_in words word)
 
--- Each symbol of a text is one of the marks (the law SymbolsAreMarks), so the second case is never met.
+-- Each symbol of a text is one of the marks (the law LexemesAgree), so the second case is never met.
 abbrev pub symbol_lexeme : Option Mark → Lexeme
 symbol_lexeme (Some m) = l.Mark m
 symbol_lexeme None = l.Mark m.Becomes

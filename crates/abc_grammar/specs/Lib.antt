@@ -7,9 +7,10 @@ pub mod Preds
 pub mod Plain
 pub mod Processes
 pub mod Programs
-pub mod Limits
 pub mod Sizes
+pub mod Limits
 pub mod Refusals
+pub mod Scanned
 pub mod Fronts
 pub mod Accepted
 pub mod Laws
@@ -17,5 +18,8 @@ pub mod LexemeLaws
 pub mod TextLaws
 pub mod SizeLaws
 pub mod SignLaws
+pub mod TokenSigns
 pub mod Examples
+pub mod LimitExamples
+pub mod OrderExamples
 pub mod WorkedTexts

@@ -10,6 +10,7 @@ use Rattle.abc_grammar.specs.declared.lexemes.Keyword.TheVariants as k
 use Rattle.abc_grammar.specs.declared.limits.TheConstants.{MOST_OPEN, MOST_TOKENS, MOST_PARTS, MOST_WRITTEN}
 use Rattle.abc_grammar.specs.Listed.{AreListed, IsVariable}
 use Rattle.abc_grammar.specs.Literals.{IsScalar}
+use Rattle.abc_grammar.specs.Sizes.{Free, spot_behind, counts, size_of}
 use Rattle.abc_grammar.specs.Exprs.{IsExpr}
 
 -- a fact of token k
@@ -55,9 +56,16 @@ pub record IsTooLarge (ts : List Lexeme) (k : ℕ) : Type 0 where
   pub last : (i : ℕ) → start < i → i ≤ k → ¬ At ts i starts_item
   pub counted : k ≡ start + MOST_TOKENS
 
+-- ---- size of a predicate that stands alone
+-- Token k begins the first token or literal too many.
+pub record BeginsExtraToken (ts : List Lexeme) (k : ℕ) : Type 0 where
+  pub counted : At ts k (counts (fold spot_behind Free (take k ts)))
+  pub full : MOST_TOKENS ≤ size_of (take k ts)
+
 -- ---- scalars of a set literal
 -- Token k begins the first scalar too many of a set literal: before it stand as many as may be, parted by
--- commas, and a comma, behind a `{`. No other `{` of the grammar is followed by scalars and commas.
+-- commas, and a comma, behind a `{`. Only a `{` that opens a set literal is followed by a scalar and a comma
+-- (the law MarksStand of abc_grammar_laws, as what is said of `@` and `.` below).
 pub record BeginsExtraScalar (ts : List Lexeme) (k : ℕ) : Type 0 where
   pub exists : k < length ts
   pub before : List Lexeme

@@ -6,12 +6,12 @@ use Rattle.abc_cause.specs.declared.Cause.{Cause}
 use Rattle.abc_cause.specs.declared.Cause.TheVariants as cause
 use Rattle.abc_text.specs.declared.lexical.Token.{Token}
 use Rattle.abc_text.specs.declared.lexical.Fault.{Fault}
+use Rattle.abc_text.specs.Tokens.{IsLexical}
 use Rattle.abc_grammar.specs.declared.lexemes.Lexeme.{Lexeme}
 use Rattle.abc_grammar.specs.Preds.{IsPred}
 use Rattle.abc_grammar.specs.Plain.{PlainProgram}
 use Rattle.abc_grammar.specs.Programs.{IsProgram}
-use Rattle.abc_grammar.specs.Limits.{Begins, IsTooDeep, IsTooLarge, BeginsExtraExpr, BeginsExtraVariable, BeginsExtraScalar}
-use Rattle.abc_grammar.specs.Sizes.{BeginsExtraToken}
+use Rattle.abc_grammar.specs.Limits.{Begins, IsTooDeep, IsTooLarge, BeginsExtraToken, BeginsExtraExpr, BeginsExtraVariable, BeginsExtraScalar}
 
 -- ---- places
 -- The tokens of a text are good up to the end or the first bad one. The end, or the bad token, counts as one
@@ -38,6 +38,16 @@ order cause.TooLarge = 3
 order cause.LongTuple = 4
 order cause.LongSet = 5
 order (cause.Check c) = 6
+
+-- what is wrong where the good tokens end, if they begin a text and are none
+abbrev pub end_cause : Option Fault → Cause
+end_cause None = cause.Syntax
+end_cause (Some fault) = fault.cause
+
+-- a bad token is bad for a cause of tokens, as each one of a text is
+abbrev pub HasLexical : Option Fault → Type 0
+HasLexical None = Unit {0}
+HasLexical (Some fault) = IsLexical fault.cause
 
 -- What a text must be is given by its grammar, which lists of tokens are whole texts, and by which token is
 -- one too many.

@@ -1,11 +1,9 @@
 -- The size of a predicate that stands alone: its tokens, a literal counting as one, at its first token.
-use Rattle.std.specs.Prelude.{ℕ, ◌+◌, ◌≤◌, Bool, true, false, not, List, [], ◌∷◌, take, fold, if◌then◌else◌}
+use Rattle.std.specs.Prelude.{ℕ, ◌+◌, Bool, true, false, not, List, [], ◌∷◌, if◌then◌else◌}
 use Rattle.abc_grammar.specs.declared.lexemes.Lexeme.{Lexeme}
 use Rattle.abc_grammar.specs.declared.lexemes.Lexeme.TheVariants as l
 use Rattle.abc_grammar.specs.declared.lexemes.Mark.TheVariants as m
 use Rattle.abc_grammar.specs.declared.lexemes.Keyword.TheVariants as k
-use Rattle.abc_grammar.specs.declared.limits.TheConstants.{MOST_TOKENS}
-use Rattle.abc_grammar.specs.Limits.{At}
 
 -- a token that may end an operand, behind which a `-` is no sign
 abbrev pub ends_operand : Lexeme → Bool
@@ -70,8 +68,3 @@ size_from spot (t ∷ ts) = (if counts spot t then 1 else 0) + size_from (spot_b
 -- the size of tokens
 abbrev pub size_of : List Lexeme → ℕ
 size_of ts = size_from Free ts
-
--- Token k begins the first token or literal too many.
-pub record BeginsExtraToken (ts : List Lexeme) (k : ℕ) : Type 0 where
-  pub counted : At ts k (counts (fold spot_behind Free (take k ts)))
-  pub full : MOST_TOKENS ≤ size_of (take k ts)

@@ -1,6 +1,8 @@
 //! Worked examples: small texts that are, and are not, of the grammar, and how others are refused.
 
 ghost use Rattle.abc_grammar.specs.Examples as example;
+ghost use Rattle.abc_grammar.specs.LimitExamples.{BracketLimits, TokenLimits, PartLimits};
+ghost use Rattle.abc_grammar.specs.OrderExamples.{TwoOfEach, NamePlaces};
 ghost use Rattle.abc_grammar.specs.WorkedTexts.{WorkedTexts};
 
 /// What tokens stand for: names by first meeting, a keyword behind `$`, a number with leading zeros.
@@ -46,7 +48,21 @@ pub fn worked_refusals()
     ensures arrow { example.Arrow }
 {}
 
-/// Whole texts from their bytes: one that is accepted, and two that are refused.
+/// Both sides of each limit: brackets, tokens, expressions, variables, scalars.
+pub fn worked_limits()
+    ensures brackets { BracketLimits }
+    ensures tokens { TokenLimits }
+    ensures parts { PartLimits }
+{}
+
+/// Definitions, components, first values, shown attributes, variables, expressions and updates keep their
+/// order, and each name of a definition or a component has its place.
+pub fn worked_orders()
+    ensures two_of_each { TwoOfEach }
+    ensures name_places { NamePlaces }
+{}
+
+/// Whole texts from their bytes: one that is accepted, and four that are refused.
 pub fn worked_texts()
     ensures { WorkedTexts }
 {}

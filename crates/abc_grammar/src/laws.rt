@@ -1,9 +1,10 @@
 //! Laws of the definitions, each the contract of a function that does nothing.
-ghost use Rattle.abc_grammar.specs.Laws.{OneOperand, OneExpr, OnePred, OneProcess, OneProgram, TermsBalance, RefusalsAreOne};
+ghost use Rattle.abc_grammar.specs.Laws.{OneOperand, OneExpr, OnePred, OneProcess, OneProgram, TermsBalance, CausesInOrder, RefusalsAreOne};
 ghost use Rattle.abc_grammar.specs.LexemeLaws.{LexemesAgree};
 ghost use Rattle.abc_grammar.specs.TextLaws.{FrontsAreOne, TextsAreOne};
 ghost use Rattle.abc_grammar.specs.SizeLaws.{SizesCountLiterals};
 ghost use Rattle.abc_grammar.specs.SignLaws.{SignsAreOfLiterals};
+ghost use Rattle.abc_grammar.specs.TokenSigns.{SignsAreOne};
 
 /// A list of tokens is at most one operand, one expression, one predicate, one process and one program.
 pub fn one_term()
@@ -22,6 +23,12 @@ pub fn terms_balance()
 /// A text has at most one refusal, one token and one cause.
 pub fn refusals_are_one()
     ensures { RefusalsAreOne }
+{}
+
+/// Of two causes at one token the refusal is for the first: a bad token, a wrong one, too many brackets,
+/// tokens, expressions or variables, scalars, in this order.
+pub fn causes_in_order()
+    ensures { CausesInOrder }
 {}
 
 /// What tokens stand for agrees with what tokens are: the keywords are the same, each symbol of a text
@@ -45,6 +52,12 @@ pub fn texts_are_one()
 /// The signs, by the token before each `-`, are the `-` of signed literals, and every other `-` is none.
 pub fn signs_are_of_literals()
     ensures { SignsAreOfLiterals }
+{}
+
+/// The signs of a text's tokens are those of its lexemes, and a number of 2^63 stands only right behind
+/// one: in a text of the grammar behind the `-` of a signed literal.
+pub fn signs_are_one()
+    ensures { SignsAreOne }
 {}
 
 /// The size of a predicate is the number of its tokens, each literal counting as one.

@@ -10,10 +10,13 @@ mod laws;
 mod lexemes;
 mod limits;
 
-pub use examples::{what_is_no_term, worked_lexemes, worked_refusals, worked_terms, worked_texts};
+pub use examples::{
+    what_is_no_term, worked_lexemes, worked_limits, worked_orders, worked_refusals, worked_terms,
+    worked_texts,
+};
 pub use laws::{
-    fronts_are_one, lexemes_agree, one_term, refusals_are_one, signs_are_of_literals,
-    sizes_count_literals, terms_balance, texts_are_one,
+    causes_in_order, fronts_are_one, lexemes_agree, one_term, refusals_are_one,
+    signs_are_of_literals, signs_are_one, sizes_count_literals, terms_balance, texts_are_one,
 };
 pub use lexemes::{Keyword, Lexeme, Mark};
-pub use limits::{MOST_OPEN, MOST_PARTS, MOST_TOKENS, MOST_WRITTEN};
+pub use limits::{MOST_OPEN, MOST_PARTS, MOST_TOKENS, MOST_WRITTEN, text_limits};

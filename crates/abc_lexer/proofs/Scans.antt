@@ -4,7 +4,8 @@ use Rattle.abc_text.specs.declared.lexical.Before.{Before}
 use Rattle.abc_text.specs.declared.lexical.Token.{Token}
 use Rattle.abc_text.specs.declared.lexical.Fault.{Fault}
 use Rattle.abc_text.specs.declared.lexical.Next.TheVariants.{End, Bad}
-use Rattle.abc_text.specs.Tokens.{skip, next, stands_after, IsNext, IsRead, Reads}
+use Rattle.abc_text.specs.Tokens.{skip, next, stands_after, IsNext, IsRead, Reads, IsFirstBad}
+use Rattle.abc_text.proofs.Reading.{one_reading}
 
 -- what is left reads on from the tokens that were found
 abbrev pub ReadsOn : List ℕ → List Token → Before → List ℕ → Type 0
@@ -21,3 +22,7 @@ reads_end bytes found before rest on e = subst (λ (us : List Token). Reads byte
 pub reads_bad : (bytes : List ℕ) (found : List Token) (before : Before) (rest : List ℕ) (fault : Fault) → ReadsOn bytes found before rest
     → next before (skip rest) ≡ Bad fault.cause → fault.place + length (skip rest) ≡ length bytes → Reads bytes found (Some fault)
 reads_bad bytes found before rest fault on e p = subst (λ (us : List Token). Reads bytes us (Some fault)) (append-nil found) (on [] (Some fault) (e, p))
+
+-- a text has a bad token exactly where its reading ends with a fault, and then for this one
+pub fault_read : (bytes : List ℕ) (ts : List Token) (found : Option Fault) (fault : Fault) → Reads bytes ts found → IsFirstBad bytes fault → found ≡ Some fault
+fault_read bytes ts found fault h bad = ((one_reading bytes).one ts bad.0 found (Some fault) h bad.1).1

@@ -1,5 +1,5 @@
 //! The tokens of a text.
-ghost use Rattle.std.specs.Prelude.{◌≡◌, ◌≤◌, ◌<◌, ◌^◌, ◌+◌, length, IfOk, IfErr, All};
+ghost use Rattle.std.specs.Prelude.{◌≡◌, ◌≤◌, ◌<◌, ◌^◌, ◌+◌, length, IfOk, IfErr, All, Some, None};
 ghost use Rattle.abc_text.specs.Tokens as spec;
 ghost use Rattle.abc_text.specs.Meanings.{StandsIn};
 ghost use Rattle.abc_lexer.specs.Scanning as scanning;
@@ -10,15 +10,9 @@ use crate::run::{
 };
 use crate::signs::stands_after;
 use abc_cause::Cause;
-use abc_text::{Before, Fault, Next, Token, TokenKind};
+use abc_text::{Before, Fault, MOST_NAME, MOST_NUMBER, MOST_TEXT, Next, Token, TokenKind};
 use abc_value::{List, NoMemory};
 use std::alloc::Global;
-
-/// The most bytes of a name.
-pub const MOST_NAME: usize = 32;
-
-/// The most bytes that a text stands for.
-pub const MOST_TEXT: usize = 64;
 
 fn word_token(bytes: &[u8]) -> Next
     ensures { result ≡ spec.word_token bytes.now }
@@ -52,9 +46,9 @@ fn greatest(before: Before) -> u64
     ensures { result ≡ spec.greatest before }
 {
     match before {
-        Before::Sign => 1 << 63,
-        Before::Open => i64::MAX as u64,
-        Before::Operand => i64::MAX as u64,
+        Before::Sign => MOST_NUMBER,
+        Before::Open => MOST_NUMBER - 1,
+        Before::Operand => MOST_NUMBER - 1,
     }
 }
 
@@ -166,18 +160,31 @@ pub fn scan(alloc: Global, bytes: &[u8]) -> Result<Scanned, NoMemory>
     }
 }
 
-/// The tokens of the text in order, or its first bad token.
+/// The tokens of a text, where none is bad, or else its bad token.
+fn verdict(scanned: Scanned) -> Result<List<Token>, Fault>
+    ensures good { IfOk result (λ ts. (scanned.fault ≡ None) × (ts ≡ scanned.tokens)) }
+    ensures bad { IfErr result (λ fault. scanned.fault ≡ Some fault) }
+{
+    match scanned.fault {
+        None => Ok(scanned.tokens),
+        Some(fault) => Err(fault),
+    }
+}
+
+/// The tokens of the text in order, or its first bad token. Whether a token is bad is decided without
+/// memory; only the list of the good ones takes it.
 pub fn tokens(alloc: Global, bytes: &[u8]) -> Result<List<Token>, TextRefusal>
     requires { length bytes.now < 2 ^ 32 }
     ensures ok { IfOk result (λ ts. spec.AreTokens bytes.now ts) }
     ensures stand { IfOk result (λ ts. All (StandsIn bytes.now) ts) }
     ensures refused { IfErr result (scanning.IsRefusal bytes.now) }
+    ensures exact { scanning.IsRefusedIfBad bytes.now result }
 {
     match scan(alloc, bytes) {
         Err(NoMemory) => Err(TextRefusal::NoMemory),
-        Ok(scanned) => match scanned.fault {
-            None => Ok(scanned.tokens),
-            Some(fault) => Err(TextRefusal::Refused {
+        Ok(scanned) => match verdict(scanned) {
+            Ok(tokens) => Ok(tokens),
+            Err(fault) => Err(TextRefusal::Refused {
                 place: fault.place,
                 cause: fault.cause,
             }),

@@ -66,7 +66,8 @@ pub fn text(bytes: &[u8], token: Token) -> ShortText
     unescaped(behind_first(spelling(bytes, token)))
 }
 
-fn behind_first(bytes: &[u8]) -> &[u8]
+/// The bytes behind the first one.
+pub fn behind_first(bytes: &[u8]) -> &[u8]
     ensures { result.now ≡ drop 1 bytes.now }
 {
     match bytes.split_first() {

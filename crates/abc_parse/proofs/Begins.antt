@@ -4,12 +4,14 @@ use Rattle.abc_cause.specs.declared.Cause.{Cause}
 use Rattle.abc_text.specs.declared.lexical.Token.{Token}
 use Rattle.abc_text.specs.declared.lexical.Fault.{Fault}
 use Rattle.abc_text.specs.Tokens.{Reads}
+use Rattle.abc_text.specs.Meanings.{names_behind}
 use Rattle.abc_grammar.specs.declared.lexemes.Lexeme.{Lexeme}
 use Rattle.abc_grammar.specs.Lexemes.{lexemes_of}
-use Rattle.abc_grammar.specs.Refusals.{place_at}
-use Rattle.abc_grammar.specs.Fronts.{names_behind, IsScanned, BeginsWithNoPred}
+use Rattle.abc_grammar.specs.Refusals.{end_cause, place_at}
+use Rattle.abc_grammar.specs.Scanned.{IsScanned}
+use Rattle.abc_grammar.specs.Fronts.{BeginsWithNoPred}
 use Rattle.abc_parse.specs.declared.front.Front.TheVariants as front
-use Rattle.abc_parse.specs.Fronting.{IsFrontOf, end_cause}
+use Rattle.abc_parse.specs.Fronting.{IsFrontOf}
 use Rattle.abc_parse.proofs.Texts.{faults_lexical}
 
 pub scanned_is : (names : List (List ℕ)) (bytes : List ℕ) (ts us : List Token) (fault : Option Fault) (ls : List Lexeme) → Reads bytes ts fault → us ≡ ts

@@ -6,15 +6,15 @@ use Rattle.abc_cause.specs.declared.Cause.TheVariants as cause
 use Rattle.abc_text.specs.declared.lexical.Fault.{Fault}
 use Rattle.abc_grammar.specs.declared.lexemes.Lexeme.{Lexeme}
 use Rattle.abc_grammar.specs.Preds.{IsPred}
-use Rattle.abc_grammar.specs.Limits.{Begins}
-use Rattle.abc_grammar.specs.Sizes.{BeginsExtraToken}
-use Rattle.abc_grammar.specs.Refusals.{order, IsSomePred, PassesLimit, Applies, GoesOn, IsFirstOfPred}
+use Rattle.abc_text.specs.Tokens.{IsLexical}
+use Rattle.abc_grammar.specs.Limits.{Begins, BeginsExtraToken}
+use Rattle.abc_grammar.specs.Refusals.{order, end_cause, HasLexical, IsSomePred, PassesLimit, Applies, GoesOn, IsFirstOfPred}
+use Rattle.abc_grammar.proofs.OneRefusal.{order-lexical}
 use Rattle.abc_reading.specs.Reading.{Read, Cut, Refused}
 use Rattle.abc_reading.proofs.Laws.{first, Owes}
 use Rattle.abc_reading.proofs.Chain.{Reaches}
 use Rattle.abc_parse.specs.Operands.{Tokens, Reading}
 use Rattle.abc_parse.specs.Preds.{pred}
-use Rattle.abc_parse.specs.Fronting.{IsLexical, end_cause}
 use Rattle.abc_parse.proofs.PredReads.{pred_reads}
 use Rattle.abc_parse.proofs.PredWhole.{pred_reach}
 
@@ -163,7 +163,7 @@ module _ (ts : Tokens) (fault : Option Fault) where
       before (cause.Check d) o h = h
 
 -- all the tokens begin a text, and what follows them is refused
-pub end_at : (ts : Tokens) (fault : Option Fault) → IsLexical fault → Begins IsSomePred ts → NoLimits ts (length ts) → (IsSomePred ts → ⊥) → IsFirstOfPred ts fault (end_cause fault) (length ts)
+pub end_at : (ts : Tokens) (fault : Option Fault) → HasLexical fault → Begins IsSomePred ts → NoLimits ts (length ts) → (IsSomePred ts → ⊥) → IsFirstOfPred ts fault (end_cause fault) (length ts)
 end_at ts None lexical b none wrong = record {
   applies = (omega arith, λ goes. wrong (goes.1 refl));
   least = nothing_before ts None (length ts) (omega arith) (subst (λ (us : Tokens). Begins IsSomePred us) (sym (take_all ts)) b) none;
@@ -185,18 +185,18 @@ end_at ts None lexical b none wrong = record {
 end_at ts (Some fault) lexical b none wrong = record {
   applies = bad fault.cause lexical refl;
   least = nothing_before ts (Some fault) (length ts) (omega arith) (subst (λ (us : Tokens). Begins IsSomePred us) (sym (take_all ts)) b) none;
-  first = λ d o h. omega (arith, o, lexical);
+  first = λ d o h. omega (arith, o, order-lexical fault.cause lexical);
 }
   where
-    bad : (c : Cause) → order c ≡ 0 → fault.cause ≡ c → Applies IsSomePred BeginsExtraToken c ts (Some fault) (length ts)
+    bad : (c : Cause) → IsLexical c → fault.cause ≡ c → Applies IsSomePred BeginsExtraToken c ts (Some fault) (length ts)
     bad cause.BadByte o e = (refl, e)
     bad cause.BadText o e = (refl, e)
     bad cause.LongText o e = (refl, e)
     bad cause.LongName o e = (refl, e)
     bad cause.WideNumber o e = (refl, e)
-    bad cause.Syntax o e = absurd (omega (arith, o))
-    bad cause.TooDeep o e = absurd (omega (arith, o))
-    bad cause.TooLarge o e = absurd (omega (arith, o))
-    bad cause.LongTuple o e = absurd (omega (arith, o))
-    bad cause.LongSet o e = absurd (omega (arith, o))
-    bad (cause.Check d) o e = absurd (omega (arith, o))
+    bad cause.Syntax o e = absurd o
+    bad cause.TooDeep o e = absurd o
+    bad cause.TooLarge o e = absurd o
+    bad cause.LongTuple o e = absurd o
+    bad cause.LongSet o e = absurd o
+    bad (cause.Check d) o e = absurd o

@@ -9,7 +9,7 @@ use Rattle.abc_cause.specs.declared.Cause.TheVariants as cause
 use Rattle.abc_grammar.specs.declared.lexemes.Lexeme.{Lexeme}
 use Rattle.abc_grammar.specs.Preds.{IsPred}
 use Rattle.abc_grammar.specs.Limits.{Begins}
-use Rattle.abc_grammar.specs.Sizes.{BeginsExtraToken}
+use Rattle.abc_grammar.specs.Limits.{BeginsExtraToken}
 use Rattle.abc_grammar.specs.Refusals.{order, IsSomePred, PassesLimit}
 use Rattle.abc_grammar.specs.Fronts.{IsFront, IsLongest, HasNoFront}
 use Rattle.abc_reading.specs.Reading.{Refused}

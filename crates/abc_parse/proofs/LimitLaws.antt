@@ -9,7 +9,8 @@ use Rattle.abc_grammar.specs.declared.lexemes.Lexeme.TheVariants as l
 use Rattle.abc_grammar.specs.declared.lexemes.Mark.TheVariants as m
 use Rattle.abc_grammar.specs.declared.limits.TheConstants.{MOST_OPEN, MOST_TOKENS, MOST_WRITTEN}
 use Rattle.abc_grammar.specs.Limits.{At, opens, open_behind, IsTooDeep, BeginsExtraScalar}
-use Rattle.abc_grammar.specs.Sizes.{counts, spot_behind, size_from, BeginsExtraToken}
+use Rattle.abc_grammar.specs.Sizes.{counts, spot_behind, size_from}
+use Rattle.abc_grammar.specs.Limits.{BeginsExtraToken}
 use Rattle.abc_grammar.specs.Sizes as sizes
 use Rattle.abc_grammar.specs.Refusals.{PassesLimit, IsSomePred, order}
 use Rattle.abc_parse.specs.declared.limits.Written.{Written}

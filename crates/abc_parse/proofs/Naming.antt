@@ -1,16 +1,19 @@
 -- Words that have numbers keep them.
-use Rattle.std.proofs.Common.{◌≡◌, ℕ, ◌+◌, ◌≤◌, Bool, true, false, List, [], ◌∷◌, ◌++◌, length, map, take, Option, Some, None, Bor, zero, suc, refl, sym, ap, ◌∙◌, subst, append_assoc, append-nil, length-append, arith}
-use Rattle.std.specs.Prelude.{◌||◌, if◌then◌else◌, drop, All, is_some, IfOk, Result, Ok, Err}
-use Rattle.std.specs.Str.{bytes_eq}
-use Rattle.std.proofs.lemmas.Slice.Eq.{bytes_eq-Decides}
-use Rattle.std.proofs.lemmas.List.Folds.{list_any-append}
-use Rattle.abc_text.specs.declared.lexical.TokenKind.TheVariants.{Word}
+use Rattle.std.proofs.Common.{◌≡◌, ℕ, ◌+◌, ◌≤◌, Bool, true, false, List, [], ◌∷◌, ◌++◌, length, map, take, Option, Some, None, Bor, zero, suc, refl, sym, ap, ◌∙◌, subst, append_assoc, append-nil, length-append, get_or, arith}
+use Rattle.std.specs.Prelude.{if◌then◌else◌, drop, All, is_some, IfOk, Result, Ok, Err}
+use Rattle.std.proofs.lemmas.Bool.Decides.{nat_tests}
+use Rattle.std.proofs.lemmas.List.{length-map}
+use Rattle.std.proofs.lemmas.List.Elements.{All-append}
+use Rattle.abc_value.specs.Text.{IsPrintable}
+use Rattle.abc_text.specs.declared.lexical.TokenKind.{TokenKind}
+use Rattle.abc_text.specs.declared.lexical.TokenKind.TheVariants.{Word, Variable, Number, Text, Symbol}
 use Rattle.abc_text.specs.declared.lexical.Token.{Token}
-use Rattle.abc_text.specs.Tokens.{is_keyword}
-use Rattle.abc_text.specs.Meanings.{spelling, named, word_of, has_word, with_word, with_named}
+use Rattle.abc_text.specs.Tokens.{is_keyword, is_word_byte}
+use Rattle.abc_text.specs.Meanings.{spelling, StandsIn, named, word_of, has_word, with_word, with_named, names_behind, AreNew, AreDifferent, HasName}
+use Rattle.abc_text.proofs.OfKind.{word-stands, variable-stands}
+use Rattle.abc_text.specs.Spelling.{IsWord}
+use Rattle.abc_text.proofs.Growing.{behind_grows}
 use Rattle.abc_grammar.specs.Lexemes.{keyword_at}
-use Rattle.abc_grammar.specs.Fronts.{names_behind}
-use Rattle.abc_parse.specs.Naming.{AreNew, AreDifferent, HasName}
 
 -- a word that has a number gets no other
 pub with_word-has : (words : List (List ℕ)) (word : List ℕ) → has_word words word ≡ true → with_word words word ≡ words
@@ -24,57 +27,7 @@ named-word words bytes t agree kind none h =
     let name : named bytes t ≡ Some (spelling bytes t) = ap (λ k. word_of k (spelling bytes t)) kind ∙ ap (λ (b : Bool). if b then None else Some (spelling bytes t)) no in
     rw name at h
 
--- ---- the words of tokens have numbers behind them
-with_word_grows : (words : List (List ℕ)) (word : List ℕ) → (more : List (List ℕ)) × (with_word words word ≡ words ++ more)
-with_word_grows words word = by (has_word words word)
-  where
-    by : (b : Bool) → (more : List (List ℕ)) × ((if b then words else words ++ word ∷ []) ≡ words ++ more)
-    by true = ([], sym (append-nil words))
-    by false = (word ∷ [], refl)
-
-with_named_grows : (words : List (List ℕ)) (o : Option (List ℕ)) → (more : List (List ℕ)) × (with_named words o ≡ words ++ more)
-with_named_grows words None = ([], sym (append-nil words))
-with_named_grows words (Some word) = with_word_grows words word
-
-pub behind_grows : (bytes : List ℕ) (words : List (List ℕ)) (ts : List Token) → (more : List (List ℕ)) × (names_behind words bytes ts ≡ words ++ more)
-behind_grows bytes words [] = ([], sym (append-nil words))
-behind_grows bytes words (t ∷ ts) =
-    let here = with_named_grows words (named bytes t) in
-    let rest = behind_grows bytes (with_named words (named bytes t)) ts in
-    (here.0 ++ rest.0, rest.1 ∙ ap (λ (ws : List (List ℕ)). ws ++ rest.0) here.1 ∙ append_assoc words here.0 rest.0)
-
-has_more : (words more : List (List ℕ)) (word : List ℕ) → has_word words word ≡ true → has_word (words ++ more) word ≡ true
-has_more words more word h = list_any-append (bytes_eq word) words more ∙ ap (λ (b : Bool). b || has_word more word) h
-
-has_last : (words : List (List ℕ)) (word : List ℕ) → has_word (words ++ word ∷ []) word ≡ true
-has_last words word = list_any-append (bytes_eq word) words (word ∷ []) ∙ by (has_word words word) (bytes_eq word word) ((bytes_eq-Decides word word).1 refl)
-  where
-    by : (a b : Bool) → b ≡ true → (a || (b || false)) ≡ true
-    by true b h = refl
-    by false b h = ap (λ (c : Bool). c || false) h
-
-with_word_has : (words : List (List ℕ)) (word : List ℕ) → has_word (with_word words word) word ≡ true
-with_word_has words word = by (has_word words word) refl
-  where
-    by : (b : Bool) → has_word words word ≡ b → has_word (if b then words else words ++ word ∷ []) word ≡ true
-    by true h = h
-    by false h = has_last words word
-
-name_kept : (words more : List (List ℕ)) (o : Option (List ℕ)) → HasName words o → HasName (words ++ more) o
-name_kept words more None h = tt
-name_kept words more (Some word) h = has_more words more word h
-
-name_given : (words : List (List ℕ)) (o : Option (List ℕ)) → HasName (with_named words o) o
-name_given words None = tt
-name_given words (Some word) = with_word_has words word
-
-pub all_named : (bytes : List ℕ) (words : List (List ℕ)) (ts : List Token) → All (λ t. HasName (names_behind words bytes ts) (named bytes t)) ts
-all_named bytes words [] k d h = absurd (omega arith)
-all_named bytes words (t ∷ ts) zero d h =
-    let g = behind_grows bytes (with_named words (named bytes t)) ts in
-    subst (λ (ws : List (List ℕ)). HasName ws (named bytes t)) (sym g.1) (name_kept (with_named words (named bytes t)) g.0 (named bytes t) (name_given words (named bytes t)))
-all_named bytes words (t ∷ ts) (suc k) d h = all_named bytes (with_named words (named bytes t)) ts k d (omega arith)
-
+-- ---- fronts of tokens
 pub all_take : (P : Token → Type 0) (n : ℕ) (ts : List Token) → All P ts → All P (take n ts)
 all_take P zero ts h k d lt = absurd (omega arith)
 all_take P (suc n) [] h k d lt = absurd (omega arith)
@@ -97,6 +50,81 @@ new_are bytes words ts ks more e d =
     let g = behind_grows bytes words ts in
     let new : map (λ w. w.now) more ≡ g.0 = ap (map (λ w. w.now)) d ∙ map-drop (length words) ks ∙ ap (drop (length words)) (e ∙ g.1) ∙ drop_front words g.0 in
     g.1 ∙ ap (λ (ws : List (List ℕ)). words ++ ws) (sym new)
+
+-- ---- new words are words of the tokens
+AreWords : Option (List ℕ) → Type 0
+AreWords None = Unit {0}
+AreWords (Some word) = IsWord word
+
+named_word : (bytes : List ℕ) (t : Token) (kind : TokenKind) → StandsIn bytes t → t.kind ≡ kind → AreWords (word_of kind (spelling bytes t))
+unfolding AreWords
+named_word bytes t Word stands e = by (is_keyword (spelling bytes t)) (word-stands bytes t stands e)
+  where
+    by : (b : Bool) → IsWord (spelling bytes t) → AreWords (if b then None else Some (spelling bytes t))
+    by true h = tt
+    by false h = h
+named_word bytes t Variable stands e = (variable-stands bytes t stands e).1
+named_word bytes t Number stands e = tt
+named_word bytes t Text stands e = tt
+named_word bytes t Symbol stands e = tt
+
+-- the words behind those that had numbers are words of the tokens
+pub record NewWords (words all : List (List ℕ)) : Type 0 where
+  pub more : List (List ℕ)
+  pub whole : all ≡ words ++ more
+  pub are : All IsWord more
+
+with_word_new : (words : List (List ℕ)) (word : List ℕ) → IsWord word → NewWords words (with_word words word)
+with_word_new words word h = by (has_word words word)
+  where
+    by : (b : Bool) → NewWords words (if b then words else words ++ word ∷ [])
+    by true = record { more = []; whole = sym (append-nil words); are = λ k d lt. absurd (omega (arith, lt)) }
+    by false = record { more = word ∷ []; whole = refl; are = only }
+      where
+        only : All IsWord (word ∷ [])
+        only zero d lt = h
+        only (suc k) d lt = absurd (omega (arith, lt))
+
+with_named_new : (words : List (List ℕ)) (o : Option (List ℕ)) → AreWords o → NewWords words (with_named words o)
+unfolding AreWords
+with_named_new words None h = record { more = []; whole = sym (append-nil words); are = λ k d lt. absurd (omega (arith, lt)) }
+with_named_new words (Some word) h = with_word_new words word h
+
+behind_new : (bytes : List ℕ) (words : List (List ℕ)) (ts : List Token) → All (StandsIn bytes) ts → NewWords words (names_behind words bytes ts)
+behind_new bytes words [] h = record { more = []; whole = sym (append-nil words); are = λ k d lt. absurd (omega (arith, lt)) }
+behind_new bytes words (t ∷ ts) h =
+    let here = with_named_new words (named bytes t) (named_word bytes t t.kind (h 0 t (omega arith)) refl) in
+    let rest = behind_new bytes (with_named words (named bytes t)) ts (λ k d lt. h (suc k) d (omega (arith, lt))) in
+    record {
+      more = here.more ++ rest.more;
+      whole = rest.whole ∙ ap (λ (ws : List (List ℕ)). ws ++ rest.more) here.whole ∙ append_assoc words here.more rest.more;
+      are = All-append IsWord here.more rest.more here.are rest.are;
+    }
+
+each_word : (ks : List (Bor (List ℕ))) → All IsWord (map (λ w. w.now) ks) → All (λ w. IsWord w.now) ks
+each_word [] h k d lt = absurd (omega (arith, lt))
+each_word (x ∷ xs) h zero d lt = h 0 [] (omega arith)
+each_word (x ∷ xs) h (suc k) d lt = each_word xs (λ i e l. h (suc i) e (omega (arith, l))) k d (omega (arith, lt))
+
+-- the references behind the first ones, where the words behind all of them are so many and then more
+pub new_words : (bytes : List ℕ) (words : List (List ℕ)) (ts : List Token) (ks : List (Bor (List ℕ))) → All (StandsIn bytes) ts → map (λ w. w.now) ks ≡ names_behind words bytes ts
+    → All (λ w. IsWord w.now) (drop (length words) ks)
+new_words bytes words ts ks h e =
+    let new = behind_new bytes words ts h in
+    let more : map (λ w. w.now) (drop (length words) ks) ≡ new.more = map-drop (length words) ks ∙ ap (drop (length words)) (e ∙ new.whole) ∙ drop_front words new.more in
+    each_word (drop (length words) ks) (subst (All IsWord) (sym more) new.are)
+
+pub known_first : (bytes : List ℕ) (words : List (List ℕ)) (ts : List Token) (ks : List (Bor (List ℕ))) → map (λ w. w.now) ks ≡ names_behind words bytes ts → length words ≤ length ks
+known_first bytes words ts ks e =
+    let g = behind_grows bytes words ts in
+    omega (arith, length-map ks (λ (w : Bor (List ℕ)). w.now), ap (length {A = List ℕ}) (e ∙ g.1), length-append {A = List ℕ} words g.0)
+
+-- a word is a short text
+word_byte : (b : ℕ) → is_word_byte b ≡ true → IsPrintable b
+word_byte b h = (grind (arith, nat_tests), grind (arith, nat_tests))
+
+pub word_text : (word : List ℕ) → IsWord word → (length word ≤ 64) × All IsPrintable word
+word_text word h = (let s = h.short in omega (arith, s), λ k d lt. word_byte (get_or word k d) (h.bytes k d lt))
 
 pub if_ok : {A E : Type 0} (P Q : A → Type 0) (r : Result A E) → IfOk r P → ((x : A) → P x → Q x) → IfOk r Q
 if_ok P Q (Ok x) h f = f x h

@@ -1,11 +1,10 @@
 -- What the reader of fronts answers.
-use Rattle.std.specs.Prelude.{◌≡◌, ◌+◌, ◌<◌, ◌⊎◌, List, [], length, Option, Some, None}
+use Rattle.std.specs.Prelude.{◌≡◌, ◌+◌, ◌<◌, ◌⊎◌, List, [], length, Option}
 use Rattle.abc_pred.specs.Standing.{pred_of}
 use Rattle.abc_cause.specs.declared.Cause.{Cause}
-use Rattle.abc_cause.specs.declared.Cause.TheVariants.{Syntax}
 use Rattle.abc_text.specs.declared.lexical.Fault.{Fault}
 use Rattle.abc_grammar.specs.declared.lexemes.Lexeme.{Lexeme}
-use Rattle.abc_grammar.specs.Refusals.{order, IsFirstOfPred}
+use Rattle.abc_grammar.specs.Refusals.{end_cause, HasLexical, IsFirstOfPred}
 use Rattle.abc_grammar.specs.Fronts.{IsLongest, HasNoFront}
 use Rattle.abc_reading.specs.Reading.{Read, Cut, Refused}
 use Rattle.abc_parse.specs.Operands.{Tokens}
@@ -22,19 +21,9 @@ IsTried ts (tried.Pred p n) =
 IsTried ts (tried.Refused n) = (c : Cause) × (ahead : Tokens) × (pred ts ≡ Refused c ahead) × (n + length ahead ≡ length ts) × (0 < length ahead)
 IsTried ts tried.Ends = (c : Cause) × (pred ts ≡ Refused c [])
 
--- a bad token is bad for a cause of its own
-abbrev pub IsLexical : Option Fault → Type 0
-IsLexical None = Unit {0}
-IsLexical (Some fault) = order fault.cause ≡ 0
-
--- what is wrong behind the good tokens
-abbrev pub end_cause : Option Fault → Cause
-end_cause None = Syntax
-end_cause (Some fault) = fault.cause
-
 -- the longest front that is a predicate within its limits; or there is none, and the first cause applies at this
 -- token, or behind all of them
 abbrev pub IsFrontOf : List Lexeme → Front → Type 0
 IsFrontOf ts (front.Pred p n) = IsLongest ts n (pred_of p)
 IsFrontOf ts (front.Refused n c) = HasNoFront ts × (n < length ts) × ((fault : Option Fault) → IsFirstOfPred ts fault c n)
-IsFrontOf ts front.Ends = HasNoFront ts × ((fault : Option Fault) → IsLexical fault → IsFirstOfPred ts fault (end_cause fault) (length ts))
+IsFrontOf ts front.Ends = HasNoFront ts × ((fault : Option Fault) → HasLexical fault → IsFirstOfPred ts fault (end_cause fault) (length ts))

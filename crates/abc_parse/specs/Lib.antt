@@ -4,7 +4,6 @@ pub mod Answers
 pub mod Joining
 pub mod Limiting
 pub mod Fronting
-pub mod Naming
 pub mod Reading
 pub mod Laws
 pub mod Exprs

@@ -3,11 +3,10 @@ ghost use Rattle.std.specs.Prelude.{◌≡◌, ◌<◌, ◌≤◌, ◌+◌, ◌^
 ghost use Rattle.abc_text.specs.Meanings as meanings;
 ghost use Rattle.abc_text.specs.declared.lexical.TokenKind.TheVariants as kind;
 ghost use Rattle.abc_grammar.specs.Lexemes as spec;
-ghost use Rattle.abc_grammar.specs.Fronts.{names_behind};
-ghost use Rattle.abc_parse.specs.Naming.{AreDifferent, HasName};
+ghost use Rattle.abc_text.specs.Meanings.{names_behind, AreDifferent, HasName};
 
 use abc_grammar::{Keyword, Lexeme, Mark};
-use abc_lexer::{Names, Token, TokenKind, named, number, spelling, text};
+use abc_lexer::{Names, Token, TokenKind, behind_first, named, number, spelling, text};
 use abc_pred::Name;
 use abc_value::{List, NoMemory, ShortText};
 use std::alloc::Global;
@@ -188,15 +187,6 @@ fn lexeme<'t>(bytes: &'t [u8], token: Token, known: &mut Names<'t>) -> Result<Le
         TokenKind::Number => Ok(Lexeme::Number(number(bytes, token))),
         TokenKind::Text => Ok(Lexeme::Text(text(bytes, token))),
         TokenKind::Symbol => Ok(symbol_lexeme(mark_at(spelling(bytes, token)))),
-    }
-}
-
-fn behind_first(bytes: &[u8]) -> &[u8]
-    ensures { result.now ≡ drop 1 bytes.now }
-{
-    match bytes.split_first() {
-        Some((_, rest)) => rest,
-        None => bytes,
     }
 }
 

@@ -1,15 +1,14 @@
 //! A predicate at the front of a text.
 ghost use Rattle.std.specs.Prelude.{◌≡◌, ◌<◌, ◌≤◌, ◌+◌, ◌^◌, [], ◌∷◌, ◌++◌, drop, take, map, length, IfOk, IfErr, OnErr, OnOk, All, None};
 ghost use Rattle.abc_pred.specs.Standing.{pred_of};
-ghost use Rattle.abc_text.specs.Meanings.{StandsIn};
+ghost use Rattle.abc_text.specs.Meanings.{StandsIn, names_behind, AreDifferent};
+ghost use Rattle.abc_text.specs.Spelling.{IsWord};
 ghost use Rattle.abc_text.specs.Tokens.{Reads};
 ghost use Rattle.abc_grammar.specs.Lexemes as meaning;
 ghost use Rattle.abc_grammar.specs.Refusals as refusal;
 ghost use Rattle.abc_grammar.specs.Fronts as fronts;
-ghost use Rattle.abc_grammar.specs.Fronts.{names_behind, BeginsWithPred};
-ghost use Rattle.abc_parse.specs.Naming.{AreDifferent};
-ghost use Rattle.abc_parse.specs.Fronting.{end_cause};
-ghost use Rattle.abc_parse.specs.Reading.{IsBegun, IsPredRefusal};
+ghost use Rattle.abc_grammar.specs.Fronts.{BeginsWithPred};
+ghost use Rattle.abc_parse.specs.Reading.{IsBegun, IsPredRefusal, IsRefusedIfNone};
 
 use crate::front::{Front, front_of};
 use crate::lexemes::{lexemes_of, numbered};
@@ -54,7 +53,7 @@ fn place_at(tokens: &[Token], fault: Option<Fault>, size: usize, number: usize) 
 }
 
 fn cause_at_end(fault: Option<Fault>) -> Cause
-    ensures { result ≡ end_cause fault }
+    ensures { result ≡ refusal.end_cause fault }
 {
     match fault {
         Some(fault) => fault.cause,
@@ -62,16 +61,22 @@ fn cause_at_end(fault: Option<Fault>) -> Cause
     }
 }
 
-/// The words as texts. No word is longer than a text.
+/// A word as a text. No word is longer than a text.
+fn word_text(word: &[u8]) -> ShortText
+    requires { IsWord word.now }
+    ensures { result ≡ word.now }
+{
+    ShortText::from_bytes(word).unwrap()
+}
+
+/// The words as texts.
 fn texts(alloc: Global, words: &[&[u8]]) -> Result<List<ShortText>, NoMemory>
+    requires { All (λ w. IsWord w.now) words.now }
     ensures { IfOk result (λ ts. ts ≡ map (λ w. w.now) words.now) }
 {
     let mut made = List::new(alloc);
     for word in words {
-        match ShortText::from_bytes(*word) {
-            Some(text) => made.push(text)?,
-            None => return Err(NoMemory),
-        }
+        made.push(word_text(*word))?;
     }
     Ok(made)
 }
@@ -89,13 +94,8 @@ fn new_names(
     ensures { IfOk result (λ more. names_behind names.now bytes.now tokens.now ≡ names.now ++ more) }
 {
     let known = numbered(alloc, names, bytes, tokens)?;
-    let words = known.words();
-    if names.len() <= words.len() {
-        let (_, more) = words.split_at(names.len());
-        texts(alloc, more)
-    } else {
-        Err(NoMemory)
-    }
+    let (_, more) = known.words().split_at(names.len());
+    texts(alloc, more)
 }
 
 /// What the tokens stand for, with the names numbered on from those that have numbers.
@@ -158,6 +158,7 @@ pub fn parse_pred(
     requires few { length names.old + length bytes.now < 2 ^ 32 }
     ensures found { IfOk result (λ r. BeginsWithPred names.old bytes.now (pred_of r.0) r.1 names.new) }
     ensures refused { IfErr result (IsPredRefusal names.old bytes.now) }
+    ensures exact { IsRefusedIfNone names.old bytes.now result }
     ensures same { OnErr result (names.new ≡ names.old) }
     ensures different { AreDifferent names.new }
 {

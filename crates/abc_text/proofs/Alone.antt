@@ -10,7 +10,9 @@ use Rattle.abc_cause.specs.declared.Cause.TheVariants.{BadByte, BadText, LongTex
 use Rattle.abc_text.specs.declared.lexical.Before.{Before}
 use Rattle.abc_text.specs.declared.lexical.Next.{Next}
 use Rattle.abc_text.specs.declared.lexical.Next.TheVariants.{End, Good, Bad}
+use Rattle.abc_text.specs.declared.limits.TheConstants.{MOST_NAME, MOST_TEXT}
 use Rattle.abc_text.specs.Tokens.{is_letter, is_digit, is_word_byte, is_symbol, is_quote_mark, is_printable, word_len, word_token, variable_token, decimal, greatest, number_token, one_more, text_len, text_value, closed_text, text_token, colon_token, token_at, next}
+use Rattle.abc_text.proofs.Lengths.{none_some, some_same, more_some}
 use Rattle.abc_text.proofs.Forward.{run_long, letter_is_word, good_within}
 
 -- a run alone is a run
@@ -53,16 +55,16 @@ good_len : (k l : TokenKind) (m n : ℕ) → Good k m ≡ Good l n → m ≡ n
 good_len k l m n e = cc
 
 keeps_run : (kind : TokenKind) (more n all : ℕ) (w : List ℕ) → n + more ≡ all
-    → Keeps all (if nat_le (word_len w) 32 then Good kind (word_len w + more) else Bad LongName) (if nat_le (word_len (take n w)) 32 then Good kind (word_len (take n w) + more) else Bad LongName)
+    → Keeps all (if nat_le (word_len w) MOST_NAME then Good kind (word_len w + more) else Bad LongName) (if nat_le (word_len (take n w)) MOST_NAME then Good kind (word_len (take n w) + more) else Bad LongName)
 unfolding Keeps
-keeps_run kind more n all w size k e = by (nat_le (word_len w) 32) refl e
+keeps_run kind more n all w size k e = by (nat_le (word_len w) MOST_NAME) refl e
   where
-    by : (c : Bool) → nat_le (word_len w) 32 ≡ c → (if c then Good kind (word_len w + more) else Bad LongName) ≡ Good k all → (if nat_le (word_len (take n w)) 32 then Good kind (word_len (take n w) + more) else Bad LongName) ≡ Good k all
+    by : (c : Bool) → nat_le (word_len w) MOST_NAME ≡ c → (if c then Good kind (word_len w + more) else Bad LongName) ≡ Good k all → (if nat_le (word_len (take n w)) MOST_NAME then Good kind (word_len (take n w) + more) else Bad LongName) ≡ Good k all
     by true short e =
         let long = good_len kind k (word_len w + more) all e in
         let mine : length (take_while is_word_byte w) ≡ n = omega (arith, long, size) in
         let same : word_len (take n w) ≡ word_len w = ap length (run_alone is_word_byte w n mine) in
-        ap (λ (l : ℕ). if nat_le l 32 then Good kind (l + more) else Bad LongName) same ∙ ap (λ (c : Bool). if c then Good kind (word_len w + more) else Bad LongName) short ∙ e
+        ap (λ (l : ℕ). if nat_le l MOST_NAME then Good kind (l + more) else Bad LongName) same ∙ ap (λ (c : Bool). if c then Good kind (word_len w + more) else Bad LongName) short ∙ e
     by false short e = absurd (let e' : Bad LongName ≡ Good k all = e in cc)
 
 plus_zero : (n : ℕ) → n + 0 ≡ n
@@ -70,8 +72,8 @@ plus_zero n = omega arith
 
 keeps_word : (n : ℕ) (w : List ℕ) → Keeps n (word_token w) (word_token (take n w))
 keeps_word n w =
-    subst (λ (x : Next). Keeps n x (word_token (take n w))) (ap (λ (l : ℕ). if nat_le (word_len w) 32 then Good Word l else Bad LongName) (plus_zero (word_len w)))
-    (subst (λ (y : Next). Keeps n (if nat_le (word_len w) 32 then Good Word (word_len w + 0) else Bad LongName) y) (ap (λ (l : ℕ). if nat_le (word_len (take n w)) 32 then Good Word l else Bad LongName) (plus_zero (word_len (take n w))))
+    subst (λ (x : Next). Keeps n x (word_token (take n w))) (ap (λ (l : ℕ). if nat_le (word_len w) MOST_NAME then Good Word l else Bad LongName) (plus_zero (word_len w)))
+    (subst (λ (y : Next). Keeps n (if nat_le (word_len w) MOST_NAME then Good Word (word_len w + 0) else Bad LongName) y) (ap (λ (l : ℕ). if nat_le (word_len (take n w)) MOST_NAME then Good Word l else Bad LongName) (plus_zero (word_len (take n w))))
     (keeps_run Word 0 n n w (plus_zero n)))
 
 keeps_variable : (n : ℕ) (w : List ℕ) → Keeps (suc n) (variable_token w) (variable_token (take n w))
@@ -79,16 +81,16 @@ unfolding Keeps
 keeps_variable n [] k e = absurd (let e' : Bad BadByte ≡ Good k (suc n) = e in cc)
 keeps_variable zero (b ∷ w) k e = by (is_letter b) refl e
   where
-    by : (c : Bool) → is_letter b ≡ c → (if c then (if nat_le (word_len (b ∷ w)) 32 then Good Variable (word_len (b ∷ w) + 1) else Bad LongName) else Bad BadByte) ≡ Good k 1 → variable_token [] ≡ Good k 1
-    by true l e = short (nat_le (word_len (b ∷ w)) 32) e
+    by : (c : Bool) → is_letter b ≡ c → (if c then (if nat_le (word_len (b ∷ w)) MOST_NAME then Good Variable (word_len (b ∷ w) + 1) else Bad LongName) else Bad BadByte) ≡ Good k 1 → variable_token [] ≡ Good k 1
+    by true l e = short (nat_le (word_len (b ∷ w)) MOST_NAME) e
       where
         short : (c : Bool) → (if c then Good Variable (word_len (b ∷ w) + 1) else Bad LongName) ≡ Good k 1 → variable_token [] ≡ Good k 1
         short true e = absurd (omega (arith, good_len Variable k (word_len (b ∷ w) + 1) 1 e, run_long is_word_byte b w (letter_is_word b l)))
         short false e = absurd (let e' : Bad LongName ≡ Good k 1 = e in cc)
     by false l e = absurd (let e' : Bad BadByte ≡ Good k 1 = e in cc)
 keeps_variable (suc n) (b ∷ w) k e =
-    keeps_if (suc (suc n)) (is_letter b) (if nat_le (word_len (b ∷ w)) 32 then Good Variable (word_len (b ∷ w) + 1) else Bad LongName) (Bad BadByte)
-    (if nat_le (word_len (b ∷ take n w)) 32 then Good Variable (word_len (b ∷ take n w) + 1) else Bad LongName) (Bad BadByte)
+    keeps_if (suc (suc n)) (is_letter b) (if nat_le (word_len (b ∷ w)) MOST_NAME then Good Variable (word_len (b ∷ w) + 1) else Bad LongName) (Bad BadByte)
+    (if nat_le (word_len (b ∷ take n w)) MOST_NAME then Good Variable (word_len (b ∷ take n w) + 1) else Bad LongName) (Bad BadByte)
     (λ _. keeps_run Variable 1 (suc n) (suc (suc n)) (b ∷ w) (omega arith)) (λ _. keeps_bad (suc (suc n)) BadByte (Bad BadByte)) k e
 
 keeps_number : (before : Before) (n : ℕ) (w : List ℕ) → Keeps n (number_token before w) (number_token before (take n w))
@@ -102,22 +104,6 @@ keeps_number before n w k e = by (nat_le (decimal (take_while is_digit w)) (grea
         ap (λ (l : List ℕ). if nat_le (decimal l) (greatest before) then Good Number (length l) else Bad WideNumber) same ∙ ap (λ (c : Bool). if c then Good Number (length (take_while is_digit w)) else Bad WideNumber) small ∙ e
     by false small e = absurd (let e' : Bad WideNumber ≡ Good k n = e in cc)
 
--- the bytes up to a closing quote alone close there
-nothing : Option ℕ
-nothing = None
-
-none_some : (n : ℕ) → nothing ≡ Some n → ⊥
-unfolding nothing
-none_some n e = cc
-
-some_same : (m n : ℕ) → Some m ≡ Some n → m ≡ n
-some_same m n e = cc
-
-more_some : (o : Option ℕ) (n : ℕ) → one_more o ≡ Some n → (m : ℕ) × (o ≡ Some m) × (n ≡ suc m)
-unfolding nothing
-more_some None n e = absurd (none_some n e)
-more_some (Some m) n e = let e' = some_same (m + 1) n e in (m, refl, omega (arith, e'))
-
 -- the text of these bytes closes after n and stands for the same
 pub record ClosesAt (escape : Bool) (w : List ℕ) (n : ℕ) : Type 0 where
   pub len : text_len escape (take n w) ≡ Some n
@@ -127,7 +113,6 @@ plus_one : (m n : ℕ) → n ≡ suc m → m + 1 ≡ n
 plus_one m n e = omega (arith, e)
 
 closes_at : (escape : Bool) (w : List ℕ) (n : ℕ) → text_len escape w ≡ Some n → ClosesAt escape w n
-unfolding nothing
 closes_at escape [] n e = absurd (none_some n e)
 closes_at true (b ∷ w) n e = by (closes_at false w) (is_quote_mark b) refl e
   where
@@ -168,7 +153,7 @@ closes_at false (b ∷ w) n e = by (closes_at true w) (closes_at false w) (b == 
 
 closed_good : (size : ℕ) (o : Option ℕ) (k : TokenKind) (n : ℕ) → closed_text size o ≡ Good k (suc n) → o ≡ Some n
 closed_good size None k n e = absurd (let e' : Bad BadText ≡ Good k (suc n) = e in cc)
-closed_good size (Some m) k n e = by (nat_le size 64) e
+closed_good size (Some m) k n e = by (nat_le size MOST_TEXT) e
   where
     by : (c : Bool) → (if c then Good Text (m + 1) else Bad LongText) ≡ Good k (suc n) → Some m ≡ Some n
     by true e = let e' = good_len Text k (m + 1) (suc n) e in let same : m ≡ n = omega (arith, e') in ap Some same

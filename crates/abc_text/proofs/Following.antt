@@ -9,8 +9,10 @@ use Rattle.abc_cause.specs.declared.Cause.TheVariants.{BadByte, BadText, LongNam
 use Rattle.abc_text.specs.declared.lexical.Before.{Before}
 use Rattle.abc_text.specs.declared.lexical.Next.{Next}
 use Rattle.abc_text.specs.declared.lexical.Next.TheVariants.{End, Good, Bad}
+use Rattle.abc_text.specs.declared.limits.TheConstants.{MOST_NAME}
 use Rattle.abc_text.specs.Tokens.{is_letter, is_digit, is_word_byte, is_symbol, is_quote_mark, is_printable, word_len, word_token, variable_token, decimal, greatest, number_token, one_more, text_len, text_value, closed_text, text_token, colon_token, token_at, next}
 use Rattle.abc_text.specs.Laws.{Stops, MayFollow}
+use Rattle.abc_text.proofs.Lengths.{none_some, more_some}
 
 -- a run that takes a whole list goes on only into what passes
 run_stops : (p : ℕ → Bool) (w rest : List ℕ) → length (take_while p w) ≡ length w → Stops p rest → take_while p (w ++ rest) ≡ take_while p w
@@ -48,16 +50,16 @@ good_same k l m n e = (cc, cc)
 
 -- a run of a word, of which `more` bytes stand before
 keeps_run : (rest : List ℕ) (n : ℕ) (kind : TokenKind) (more : ℕ) (w : List ℕ) → n ≡ length w + more → (MayFollow kind rest → Stops is_word_byte rest)
-    → Keeps rest n (if nat_le (word_len w) 32 then Good kind (word_len w + more) else Bad LongName) (if nat_le (word_len (w ++ rest)) 32 then Good kind (word_len (w ++ rest) + more) else Bad LongName)
+    → Keeps rest n (if nat_le (word_len w) MOST_NAME then Good kind (word_len w + more) else Bad LongName) (if nat_le (word_len (w ++ rest)) MOST_NAME then Good kind (word_len (w ++ rest) + more) else Bad LongName)
 unfolding Keeps
-keeps_run rest n kind more w size stops k e m = by (nat_le (word_len w) 32) refl e
+keeps_run rest n kind more w size stops k e m = by (nat_le (word_len w) MOST_NAME) refl e
   where
-    by : (c : Bool) → nat_le (word_len w) 32 ≡ c → (if c then Good kind (word_len w + more) else Bad LongName) ≡ Good k n → (if nat_le (word_len (w ++ rest)) 32 then Good kind (word_len (w ++ rest) + more) else Bad LongName) ≡ Good k n
+    by : (c : Bool) → nat_le (word_len w) MOST_NAME ≡ c → (if c then Good kind (word_len w + more) else Bad LongName) ≡ Good k n → (if nat_le (word_len (w ++ rest)) MOST_NAME then Good kind (word_len (w ++ rest) + more) else Bad LongName) ≡ Good k n
     by true short e =
         let both = good_same kind k (word_len w + more) n e in
         let all : length (take_while is_word_byte w) ≡ length w = omega (arith, both.1, size) in
         let same : word_len (w ++ rest) ≡ word_len w = ap length (run_stops is_word_byte w rest all (stops (subst (λ (l : TokenKind). MayFollow l rest) (sym both.0) m))) in
-        ap (λ (l : ℕ). if nat_le l 32 then Good kind (l + more) else Bad LongName) same ∙ ap (λ (c : Bool). if c then Good kind (word_len w + more) else Bad LongName) short ∙ e
+        ap (λ (l : ℕ). if nat_le l MOST_NAME then Good kind (l + more) else Bad LongName) same ∙ ap (λ (c : Bool). if c then Good kind (word_len w + more) else Bad LongName) short ∙ e
     by false short e = absurd (let e' : Bad LongName ≡ Good k n = e in cc)
 
 plus_zero : (n : ℕ) → n ≡ n + 0
@@ -65,8 +67,8 @@ plus_zero n = omega arith
 
 keeps_word : (rest w : List ℕ) → Keeps rest (length w) (word_token w) (word_token (w ++ rest))
 keeps_word rest w =
-    subst (λ (x : Next). Keeps rest (length w) x (word_token (w ++ rest))) (ap (λ (l : ℕ). if nat_le (word_len w) 32 then Good Word l else Bad LongName) (sym (plus_zero (word_len w))))
-    (subst (λ (y : Next). Keeps rest (length w) (if nat_le (word_len w) 32 then Good Word (word_len w + 0) else Bad LongName) y) (ap (λ (l : ℕ). if nat_le (word_len (w ++ rest)) 32 then Good Word l else Bad LongName) (sym (plus_zero (word_len (w ++ rest)))))
+    subst (λ (x : Next). Keeps rest (length w) x (word_token (w ++ rest))) (ap (λ (l : ℕ). if nat_le (word_len w) MOST_NAME then Good Word l else Bad LongName) (sym (plus_zero (word_len w))))
+    (subst (λ (y : Next). Keeps rest (length w) (if nat_le (word_len w) MOST_NAME then Good Word (word_len w + 0) else Bad LongName) y) (ap (λ (l : ℕ). if nat_le (word_len (w ++ rest)) MOST_NAME then Good Word l else Bad LongName) (sym (plus_zero (word_len (w ++ rest)))))
     (keeps_run rest (length w) Word 0 w (omega arith) (λ s. s)))
 
 keeps_variable : (rest w : List ℕ) → Keeps rest (length w + 1) (variable_token w) (variable_token (w ++ rest))
@@ -86,20 +88,7 @@ keeps_number before rest w k e m = by (nat_le (decimal (take_while is_digit w)) 
     by false small e = absurd (let e' : Bad WideNumber ≡ Good k (length w) = e in cc)
 
 -- where a text closes, what follows is no part of it
-nothing : Option ℕ
-nothing = None
-
-none_some : (n : ℕ) → nothing ≡ Some n → ⊥
-unfolding nothing
-none_some n e = cc
-
-more_some : (o : Option ℕ) (n : ℕ) → one_more o ≡ Some n → (m : ℕ) × (o ≡ Some m)
-unfolding nothing
-more_some None n e = absurd (none_some n e)
-more_some (Some m) n e = (m, refl)
-
 pub closes : (escape : Bool) (w rest : List ℕ) (n : ℕ) → text_len escape w ≡ Some n → (text_len escape (w ++ rest) ≡ text_len escape w) × (text_value escape (w ++ rest) ≡ text_value escape w)
-unfolding nothing
 closes escape [] rest n e = absurd (none_some n e)
 closes true (b ∷ w) rest n e = by (closes false w rest) (is_quote_mark b) e
   where

@@ -9,6 +9,7 @@ use Rattle.abc_cause.specs.declared.Cause.TheVariants.{BadByte, LongText, LongNa
 use Rattle.abc_text.specs.declared.lexical.Before.{Before}
 use Rattle.abc_text.specs.declared.lexical.Next.{Next}
 use Rattle.abc_text.specs.declared.lexical.Next.TheVariants.{End, Good, Bad}
+use Rattle.abc_text.specs.declared.limits.TheConstants.{MOST_NAME, MOST_TEXT}
 use Rattle.abc_text.specs.Tokens.{is_blank, is_letter, is_digit, is_word_byte, is_symbol, is_quote_mark, is_printable, one_more, skip_from, skip, word_len, word_token, variable_token, decimal, greatest, number_token, text_len, text_value, closed_text, text_token, colon_token, token_at, next}
 
 skip_from_le : (inside : Bool) (bytes : List ℕ) → length (skip_from inside bytes) ≤ length bytes
@@ -48,13 +49,13 @@ letter_is_word b l = rw l refl
 
 word_within : (b : ℕ) (bs : List ℕ) → is_letter b ≡ true → IsWithin (length (b ∷ bs)) (word_token (b ∷ bs))
 unfolding IsWithin
-word_within b bs l = if_within (length (b ∷ bs)) (nat_le (word_len (b ∷ bs)) 32) (Good Word (word_len (b ∷ bs))) (Bad LongName) (λ _. (run_long is_word_byte b bs (letter_is_word b l), run_short is_word_byte (b ∷ bs))) (λ _. tt)
+word_within b bs l = if_within (length (b ∷ bs)) (nat_le (word_len (b ∷ bs)) MOST_NAME) (Good Word (word_len (b ∷ bs))) (Bad LongName) (λ _. (run_long is_word_byte b bs (letter_is_word b l), run_short is_word_byte (b ∷ bs))) (λ _. tt)
 
 variable_within : (bs : List ℕ) → IsWithin (suc (length bs)) (variable_token bs)
 unfolding IsWithin
 variable_within [] = tt
-variable_within (b ∷ bs) = if_within (suc (length (b ∷ bs))) (is_letter b) (if nat_le (word_len (b ∷ bs)) 32 then Good Variable (word_len (b ∷ bs) + 1) else Bad LongName) (Bad BadByte)
-    (λ _. if_within (suc (length (b ∷ bs))) (nat_le (word_len (b ∷ bs)) 32) (Good Variable (word_len (b ∷ bs) + 1)) (Bad LongName) (λ _. (omega arith, omega (arith, run_short is_word_byte (b ∷ bs)))) (λ _. tt)) (λ _. tt)
+variable_within (b ∷ bs) = if_within (suc (length (b ∷ bs))) (is_letter b) (if nat_le (word_len (b ∷ bs)) MOST_NAME then Good Variable (word_len (b ∷ bs) + 1) else Bad LongName) (Bad BadByte)
+    (λ _. if_within (suc (length (b ∷ bs))) (nat_le (word_len (b ∷ bs)) MOST_NAME) (Good Variable (word_len (b ∷ bs) + 1)) (Bad LongName) (λ _. (omega arith, omega (arith, run_short is_word_byte (b ∷ bs)))) (λ _. tt)) (λ _. tt)
 
 number_within : (before : Before) (b : ℕ) (bs : List ℕ) → is_digit b ≡ true → IsWithin (length (b ∷ bs)) (number_token before (b ∷ bs))
 unfolding IsWithin number_token
@@ -86,7 +87,7 @@ text_at_most false (b ∷ bs) =
 closed_within : (most size : ℕ) (n : Option ℕ) → IsAtMost most n → IsWithin (suc most) (closed_text size n)
 unfolding IsWithin IsAtMost
 closed_within most size None h = tt
-closed_within most size (Some n) h = if_within (suc most) (nat_le size 64) (Good Text (n + 1)) (Bad LongText) (λ _. (omega arith, omega arith)) (λ _. tt)
+closed_within most size (Some n) h = if_within (suc most) (nat_le size MOST_TEXT) (Good Text (n + 1)) (Bad LongText) (λ _. (omega arith, omega arith)) (λ _. tt)
 
 text_within : (bs : List ℕ) → IsWithin (suc (length bs)) (text_token bs)
 unfolding text_token

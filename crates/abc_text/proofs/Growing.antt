@@ -1,17 +1,13 @@
 -- The list of names only grows.
-use Rattle.std.proofs.Common.{◌≡◌, ℕ, Bool, true, false, List, [], ◌∷◌, ◌++◌, Option, Some, None, refl, sym, ap, ◌∙◌, append_assoc, append-nil}
-use Rattle.std.specs.Prelude.{◌||◌, if◌then◌else◌, fold}
+use Rattle.std.proofs.Common.{◌≡◌, ℕ, zero, suc, ◌+◌, ◌<◌, Bool, true, false, List, [], ◌∷◌, ◌++◌, Option, Some, None, length, cond, refl, sym, ap, ◌∙◌, subst, append_assoc, append-nil, arith}
+use Rattle.std.specs.Prelude.{◌||◌, not, if◌then◌else◌}
 use Rattle.std.specs.Str.{bytes_eq}
 use Rattle.std.proofs.lemmas.List.Sums.{fold-append}
 use Rattle.std.proofs.lemmas.Slice.Eq.{bytes_eq-Decides}
 use Rattle.std.proofs.lemmas.List.Folds.{list_any-append}
 use Rattle.abc_text.specs.declared.lexical.Token.{Token}
-use Rattle.abc_text.specs.Meanings.{named, has_word, with_word, with_named, names_of}
+use Rattle.abc_text.specs.Meanings.{named, has_word, number_in, with_word, with_named, names_behind, HasName}
 use Rattle.abc_text.specs.Laws.{NamesStay, NamedHaveNumbers}
-
--- the names after more tokens
-abbrev names_after : List ℕ → List (List ℕ) → List Token → List (List ℕ)
-names_after bytes words ts = fold (λ words t. with_named words (named bytes t)) words ts
 
 with_word_grows : (words : List (List ℕ)) (word : List ℕ) → (more : List (List ℕ)) × (with_word words word ≡ words ++ more)
 with_word_grows words word = by (has_word words word)
@@ -24,17 +20,18 @@ with_named_grows : (words : List (List ℕ)) (o : Option (List ℕ)) → (more :
 with_named_grows words None = ([], sym (append-nil words))
 with_named_grows words (Some word) = with_word_grows words word
 
-after_grows : (bytes : List ℕ) (words : List (List ℕ)) (ts : List Token) → (more : List (List ℕ)) × (names_after bytes words ts ≡ words ++ more)
-after_grows bytes words [] = ([], sym (append-nil words))
-after_grows bytes words (t ∷ ts) =
+-- the words that have numbers stay, and keep them
+pub behind_grows : (bytes : List ℕ) (words : List (List ℕ)) (ts : List Token) → (more : List (List ℕ)) × (names_behind words bytes ts ≡ words ++ more)
+behind_grows bytes words [] = ([], sym (append-nil words))
+behind_grows bytes words (t ∷ ts) =
     let here = with_named_grows words (named bytes t) in
-    let rest = after_grows bytes (with_named words (named bytes t)) ts in
+    let rest = behind_grows bytes (with_named words (named bytes t)) ts in
     (here.0 ++ rest.0, rest.1 ∙ ap (λ (ws : List (List ℕ)). ws ++ rest.0) here.1 ∙ append_assoc words here.0 rest.0)
 
 pub names_stay : NamesStay
-names_stay bytes ts us =
-    let grows = after_grows bytes (names_of bytes ts) us in
-    (grows.0, fold-append (λ (words : List (List ℕ)) (t : Token). with_named words (named bytes t)) [] ts us ∙ grows.1)
+names_stay words bytes ts us =
+    let grows = behind_grows bytes (names_behind words bytes ts) us in
+    (grows.0, fold-append (λ (known : List (List ℕ)) (t : Token). with_named known (named bytes t)) words ts us ∙ grows.1)
 
 bytes_eq_refl : (w : List ℕ) → bytes_eq w w ≡ true
 bytes_eq_refl w = (bytes_eq-Decides w w).1 refl
@@ -56,9 +53,26 @@ with_word_has words word = by (has_word words word) refl
     by true h = h
     by false h = has_last words word
 
+name_kept : (words more : List (List ℕ)) (o : Option (List ℕ)) → HasName words o → HasName (words ++ more) o
+name_kept words more None h = tt
+name_kept words more (Some word) h = has_more words more word h
+
+name_given : (words : List (List ℕ)) (o : Option (List ℕ)) → HasName (with_named words o) o
+name_given words None = tt
+name_given words (Some word) = with_word_has words word
+
 pub named_have_numbers : NamedHaveNumbers
-named_have_numbers bytes ts us t word e =
-    let here : has_word (with_named (names_of bytes ts) (named bytes t)) word ≡ true = ap (λ (o : Option (List ℕ)). has_word (with_named (names_of bytes ts) o) word) e ∙ with_word_has (names_of bytes ts) word in
-    let grows = after_grows bytes (with_named (names_of bytes ts) (named bytes t)) us in
-    ap (λ (words : List (List ℕ)). has_word words word) (fold-append (λ (words : List (List ℕ)) (u : Token). with_named words (named bytes u)) [] ts (t ∷ us) ∙ grows.1)
-    ∙ has_more (with_named (names_of bytes ts) (named bytes t)) grows.0 word here
+named_have_numbers words bytes [] k d h = absurd (omega (arith, h))
+named_have_numbers words bytes (t ∷ ts) zero d h =
+    let g = behind_grows bytes (with_named words (named bytes t)) ts in
+    subst (λ (ws : List (List ℕ)). HasName ws (named bytes t)) (sym g.1) (name_kept (with_named words (named bytes t)) g.0 (named bytes t) (name_given words (named bytes t)))
+named_have_numbers words bytes (t ∷ ts) (suc k) d h = named_have_numbers (with_named words (named bytes t)) bytes ts k d (omega (arith, h))
+
+-- the number of a word that has one is below their number
+pub number_below : (words : List (List ℕ)) (word : List ℕ) → has_word words word ≡ true → number_in words word < length words
+number_below [] word h = absurd (let h' : false ≡ true = h in cc)
+number_below (w ∷ ws) word h = by (number_below ws word) (bytes_eq word w) h
+  where
+    by : (has_word ws word ≡ true → number_in ws word < length ws) → (b : Bool) → (b || has_word ws word) ≡ true → cond (not b) (1 + number_in ws word) 0 < length (w ∷ ws)
+    by more true e = omega arith
+    by more false e = let below = more e in omega (arith, below)

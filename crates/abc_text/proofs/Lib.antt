@@ -1,10 +1,14 @@
+pub mod Lengths
 pub mod Forward
 pub mod Reading
 pub mod Following
 pub mod Spelled
 pub mod Alone
 pub mod Standing
+pub mod ByKind
 pub mod OfKind
+pub mod Faults
+pub mod Numbers
 pub mod ReadBack
 pub mod Growing
 pub mod WorkedThrough

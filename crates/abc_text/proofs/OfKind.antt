@@ -16,49 +16,10 @@ use Rattle.abc_text.specs.declared.lexical.Next.TheVariants.{End, Good, Bad}
 use Rattle.abc_text.specs.declared.lexical.Token.{Token}
 use Rattle.abc_text.specs.Tokens.{is_letter, is_digit, is_word_byte, is_symbol, is_quote_mark, is_printable, word_len, variable_token, decimal, greatest, number_token, one_more, text_len, text_value, closed_text, text_token, colon_token, next}
 use Rattle.abc_text.specs.Meanings.{spelling, StandsIn, number_of, text_at}
-
--- by the kind of the next token
-module _ (before : Before) (P : List ℕ → Next → Type 0) (end : P [] End) (bad : (bs : List ℕ) (c : Cause) → P bs (Bad c))
-    (word : (b : ℕ) (bs : List ℕ) → nat_le (word_len (b ∷ bs)) 32 ≡ true → P (b ∷ bs) (Good Word (word_len (b ∷ bs))))
-    (variable : (b : ℕ) (bs : List ℕ) → nat_le (word_len bs) 32 ≡ true → P (b ∷ bs) (Good Variable (word_len bs + 1)))
-    (number : (bs : List ℕ) → nat_le (decimal (take_while is_digit bs)) (greatest before) ≡ true → P bs (Good Number (length (take_while is_digit bs))))
-    (text : (b : ℕ) (bs : List ℕ) (n : ℕ) → text_len false bs ≡ Some n → nat_le (length (text_value false bs)) 64 ≡ true → P (b ∷ bs) (Good Text (n + 1)))
-    (symbol : (bs : List ℕ) (n : ℕ) → P bs (Good Symbol n)) where
-  if_next : (bs : List ℕ) (c : Bool) (x y : Next) → (c ≡ true → P bs x) → P bs y → P bs (if c then x else y)
-  if_next bs true x y f g = f refl
-  if_next bs false x y f g = g
-
-  if_variable : (b : ℕ) (bs : List ℕ) → P (b ∷ bs) (variable_token bs)
-  if_variable b [] = bad (b ∷ []) BadByte
-  if_variable b (x ∷ xs) = if_next (b ∷ (x ∷ xs)) (is_letter x) (if nat_le (word_len (x ∷ xs)) 32 then Good Variable (word_len (x ∷ xs) + 1) else Bad LongName) (Bad BadByte)
-      (λ _. if_next (b ∷ (x ∷ xs)) (nat_le (word_len (x ∷ xs)) 32) (Good Variable (word_len (x ∷ xs) + 1)) (Bad LongName) (variable b (x ∷ xs)) (bad (b ∷ (x ∷ xs)) LongName)) (bad (b ∷ (x ∷ xs)) BadByte)
-
-  if_number : (bs : List ℕ) → P bs (number_token before bs)
-  unfolding number_token
-  if_number bs = if_next bs (nat_le (decimal (take_while is_digit bs)) (greatest before)) (Good Number (length (take_while is_digit bs))) (Bad WideNumber) (number bs) (bad bs WideNumber)
-
-  if_closed : (b : ℕ) (bs : List ℕ) (o : Option ℕ) → text_len false bs ≡ o → P (b ∷ bs) (closed_text (length (text_value false bs)) o)
-  if_closed b bs None e = bad (b ∷ bs) BadText
-  if_closed b bs (Some n) e = if_next (b ∷ bs) (nat_le (length (text_value false bs)) 64) (Good Text (n + 1)) (Bad LongText) (text b bs n e) (bad (b ∷ bs) LongText)
-
-  if_text : (b : ℕ) (bs : List ℕ) → P (b ∷ bs) (text_token bs)
-  unfolding text_token
-  if_text b bs = if_closed b bs (text_len false bs) refl
-
-  if_colon : (b : ℕ) (bs : List ℕ) → P (b ∷ bs) (colon_token bs)
-  if_colon b [] = bad (b ∷ []) BadByte
-  if_colon b (x ∷ xs) = if_next (b ∷ (x ∷ xs)) (x == 61) (Good Symbol 2) (Bad BadByte) (λ _. symbol (b ∷ (x ∷ xs)) 2) (bad (b ∷ (x ∷ xs)) BadByte)
-
-  pub by_kind : (bytes : List ℕ) → P bytes (next before bytes)
-  unfolding next
-  by_kind [] = end
-  by_kind (b ∷ bs) =
-      if_next (b ∷ bs) (is_letter b) _ _ (λ _. if_next (b ∷ bs) (nat_le (word_len (b ∷ bs)) 32) (Good Word (word_len (b ∷ bs))) (Bad LongName) (word b bs) (bad (b ∷ bs) LongName))
-      (if_next (b ∷ bs) (b == 36) _ _ (λ _. if_variable b bs)
-      (if_next (b ∷ bs) (is_digit b) _ _ (λ _. if_number (b ∷ bs))
-      (if_next (b ∷ bs) (b == 34) _ _ (λ _. if_text b bs)
-      (if_next (b ∷ bs) (is_symbol b) _ _ (λ _. symbol (b ∷ bs) 1)
-      (if_next (b ∷ bs) (b == 58) _ _ (λ _. if_colon b bs) (bad (b ∷ bs) BadByte))))))
+use Rattle.abc_text.specs.declared.limits.TheConstants.{MOST_NAME, MOST_TEXT}
+use Rattle.abc_text.specs.Spelling.{IsWord, IsTextValue}
+use Rattle.abc_text.proofs.Lengths.{none_some, more_some}
+use Rattle.abc_text.proofs.ByKind.{by_kind}
 
 -- ---- numbers
 greatest_small : (before : Before) → greatest before ≤ 2 ^ 63
@@ -66,20 +27,20 @@ greatest_small Open = omega arith
 greatest_small Operand = omega arith
 greatest_small Sign = omega arith
 
-IfNumber : List ℕ → Next → Type 0
-IfNumber bytes End = Unit {0}
-IfNumber bytes (Bad c) = Unit {0}
-IfNumber bytes (Good Word n) = Unit {0}
-IfNumber bytes (Good Variable n) = Unit {0}
-IfNumber bytes (Good Number n) = (n ≡ length (take_while is_digit bytes)) × (decimal (take_while is_digit bytes) ≤ 2 ^ 63)
-IfNumber bytes (Good Text n) = Unit {0}
-IfNumber bytes (Good Symbol n) = Unit {0}
+IfNumber : Before → List ℕ → Next → Type 0
+IfNumber before bytes End = Unit {0}
+IfNumber before bytes (Bad c) = Unit {0}
+IfNumber before bytes (Good Word n) = Unit {0}
+IfNumber before bytes (Good Variable n) = Unit {0}
+IfNumber before bytes (Good Number n) = (n ≡ length (take_while is_digit bytes)) × (decimal (take_while is_digit bytes) ≤ greatest before)
+IfNumber before bytes (Good Text n) = Unit {0}
+IfNumber before bytes (Good Symbol n) = Unit {0}
 
-number_is : (before : Before) (bytes : List ℕ) → IfNumber bytes (next before bytes)
+number_is : (before : Before) (bytes : List ℕ) → IfNumber before bytes (next before bytes)
 unfolding IfNumber
-number_is before = by_kind before IfNumber tt (λ _ _. tt) (λ _ _ _. tt) (λ _ _ _. tt)
-    (λ bs h. (refl, let small = leb-true (decimal (take_while is_digit bs)) (greatest before) h in omega (arith, small, greatest_small before)))
-    (λ _ _ _ _ _. tt) (λ _ _. tt)
+number_is before = by_kind before (IfNumber before) tt (λ _ _ _. tt) (λ _ _ _. tt) (λ _ _ _. tt)
+    (λ bs h. (refl, leb-true (decimal (take_while is_digit bs)) (greatest before) h))
+    (λ _ _ _ _ _. tt) (λ _ _ _. tt) (λ _ _ _ _ _. tt)
 
 -- a list that is as long as a run of it is that run
 whole_run : (p : ℕ → Bool) (bs : List ℕ) → length bs ≡ length (take_while p bs) → take_while p bs ≡ bs
@@ -87,11 +48,12 @@ whole_run p bs e =
     let long : length (take_while p bs) ≡ prefix_len p bs = length-take-le (prefix_len p bs) bs (prefix_len-le-length p bs) in
     take_all (prefix_len p bs) bs (omega (arith, e, long))
 
-pub number-alone : (before : Before) (bytes : List ℕ) → next before bytes ≡ Good Number (length bytes) → decimal bytes ≤ 2 ^ 63
+-- a number alone is at most the greatest that may stand there
+pub number-alone : (before : Before) (bytes : List ℕ) → next before bytes ≡ Good Number (length bytes) → decimal bytes ≤ greatest before
 unfolding IfNumber
 number-alone before bytes e =
-    let h = subst (IfNumber bytes) e (number_is before bytes) in
-    subst (λ (ds : List ℕ). decimal ds ≤ 2 ^ 63) (whole_run is_digit bytes h.0) h.1
+    let h = subst (IfNumber before bytes) e (number_is before bytes) in
+    subst (λ (ds : List ℕ). decimal ds ≤ greatest before) (whole_run is_digit bytes h.0) h.1
 
 pub length-spelling : (bytes : List ℕ) (t : Token) → StandsIn bytes t → length (spelling bytes t) ≡ t.len
 length-spelling bytes t h = length-take-le t.len (drop t.place bytes) (omega (arith, h.within, length-drop {A = ℕ} t.place bytes))
@@ -100,22 +62,17 @@ alone-as : (bytes : List ℕ) (t : Token) (k : TokenKind) → StandsIn bytes t �
 alone-as bytes t k h e = (h.before, h.alone ∙ (let long = sym (length-spelling bytes t h) in λ i. Good (e i) (long i)))
 
 pub number_of-small : (bytes : List ℕ) (t : Token) → StandsIn bytes t → t.kind ≡ Number → number_of bytes t ≤ 2 ^ 63
-number_of-small bytes t h e = let a = alone-as bytes t Number h e in number-alone a.0 (spelling bytes t) a.1
+number_of-small bytes t h e = let a = alone-as bytes t Number h e in let fits = number-alone a.0 (spelling bytes t) a.1 in omega (arith, fits, greatest_small a.0)
 
 -- ---- words
--- a word's bytes are letters, digits and _, at most 32
-pub record IsWord (word : List ℕ) : Type 0 where
-  pub short : length word ≤ 32
-  pub bytes : AllPass is_word_byte word
-
 run_passes : (p : ℕ → Bool) (bs : List ℕ) → take_while p bs ≡ bs → AllPass p bs
 run_passes p bs e k d l =
     let long : length (take_while p bs) ≡ prefix_len p bs = length-take-le (prefix_len p bs) bs (prefix_len-le-length p bs) in
     prefix_len_passes p bs k d (omega (arith, l, long, ap (length {A = ℕ}) e))
 
-is_word : (bs : List ℕ) → nat_le (word_len bs) 32 ≡ true → length bs ≡ word_len bs → IsWord bs
+is_word : (bs : List ℕ) → nat_le (word_len bs) MOST_NAME ≡ true → length bs ≡ word_len bs → IsWord bs
 is_word bs h e = record {
-  short = let s = leb-true (word_len bs) 32 h in omega (arith, s, e);
+  short = let s = leb-true (word_len bs) MOST_NAME h in omega (arith, s, e);
   bytes = run_passes is_word_byte bs (whole_run is_word_byte bs e);
 }
 
@@ -130,7 +87,8 @@ IfWord bytes (Good Symbol n) = Unit {0}
 
 word_is : (before : Before) (bytes : List ℕ) → IfWord bytes (next before bytes)
 unfolding IfWord
-word_is before = by_kind before IfWord tt (λ _ _. tt) (λ b bs h e. is_word (b ∷ bs) h e) (λ b bs h e. (omega arith, is_word bs h (omega (arith, e)))) (λ _ _. tt) (λ _ _ _ _ _. tt) (λ _ _. tt)
+word_is before = by_kind before IfWord tt (λ _ _ _. tt) (λ b bs h e. is_word (b ∷ bs) h e) (λ b bs h e. (omega arith, is_word bs h (omega (arith, e))))
+    (λ _ _. tt) (λ _ _ _ _ _. tt) (λ _ _ _. tt) (λ _ _ _ _ _. tt)
 
 pub word-stands : (bytes : List ℕ) (t : Token) → StandsIn bytes t → t.kind ≡ Word → IsWord (spelling bytes t)
 unfolding IfWord
@@ -141,26 +99,9 @@ unfolding IfWord
 variable-stands bytes t h e = let a = alone-as bytes t Variable h e in subst (IfWord (spelling bytes t)) a.1 (word_is a.0 (spelling bytes t)) refl
 
 -- ---- texts
--- what a text stands for: printable bytes, at most 64
-pub record IsTextValue (value : List ℕ) : Type 0 where
-  pub short : length value ≤ 64
-  pub bytes : AllPass is_printable value
-
 all_cons : (p : ℕ → Bool) (b : ℕ) (bs : List ℕ) → p b ≡ true → AllPass p bs → AllPass p (b ∷ bs)
 all_cons p b bs h t zero d l = h
 all_cons p b bs h t (suc k) d l = t k d (omega (arith, l))
-
-nothing : Option ℕ
-nothing = None
-
-none_some : (n : ℕ) → nothing ≡ Some n → ⊥
-unfolding nothing
-none_some n e = cc
-
-more_some : (o : Option ℕ) (n : ℕ) → one_more o ≡ Some n → (m : ℕ) × (o ≡ Some m)
-unfolding nothing
-more_some None n e = absurd (none_some n e)
-more_some (Some m) n e = (m, refl)
 
 mark_printable : (b : ℕ) → is_quote_mark b ≡ true → is_printable b ≡ true
 mark_printable b h = by (b == 34) (b == 92) refl refl h
@@ -171,7 +112,6 @@ mark_printable b h = by (b == 34) (b == 92) refl refl h
     by false false hc hd h = absurd (let h' : false ≡ true = h in cc)
 
 printable : (escape : Bool) (w : List ℕ) (n : ℕ) → text_len escape w ≡ Some n → AllPass is_printable (text_value escape w)
-unfolding nothing
 printable escape [] n e = absurd (none_some n e)
 printable true (b ∷ w) n e = by (printable false w) (is_quote_mark b) refl e
   where
@@ -200,8 +140,8 @@ IfText bytes (Good Symbol n) = Unit {0}
 
 text_is : (before : Before) (bytes : List ℕ) → IfText bytes (next before bytes)
 unfolding IfText
-text_is before = by_kind before IfText tt (λ _ _. tt) (λ _ _ _. tt) (λ _ _ _. tt) (λ _ _. tt)
-    (λ b bs n e h. (omega arith, record { short = leb-true (length (text_value false bs)) 64 h; bytes = printable false bs n e })) (λ _ _. tt)
+text_is before = by_kind before IfText tt (λ _ _ _. tt) (λ _ _ _. tt) (λ _ _ _. tt) (λ _ _. tt)
+    (λ b bs n e h. (omega arith, record { short = leb-true (length (text_value false bs)) MOST_TEXT h; bytes = printable false bs n e })) (λ _ _ _. tt) (λ _ _ _ _ _. tt)
 
 pub text-stands : (bytes : List ℕ) (t : Token) → StandsIn bytes t → t.kind ≡ Text → (0 < length (spelling bytes t)) × IsTextValue (text_at bytes t)
 unfolding IfText

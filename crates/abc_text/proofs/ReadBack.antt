@@ -10,8 +10,9 @@ use Rattle.abc_text.specs.declared.lexical.TokenKind.TheVariants.{Word, Variable
 use Rattle.abc_cause.specs.declared.Cause.TheVariants.{BadByte, LongText, LongName, WideNumber}
 use Rattle.abc_text.specs.declared.lexical.Before.{Before}
 use Rattle.abc_text.specs.declared.lexical.Next.TheVariants.{Good, Bad}
+use Rattle.abc_text.specs.declared.limits.TheConstants.{MOST_NAME, MOST_TEXT}
 use Rattle.abc_text.specs.Tokens.{is_letter, is_digit, is_word_byte, is_symbol, is_quote_mark, is_printable, word_len, word_token, variable_token, decimal, greatest, number_token, one_more, text_len, text_value, closed_text, text_token, colon_token, next}
-use Rattle.abc_text.specs.Spelling.{IsWordSpelling, text_spelling, Spellings}
+use Rattle.abc_text.specs.Spelling.{IsWordSpelling, IsTextValue, text_spelling, Spellings}
 use Rattle.abc_text.proofs.Forward.{letter_is_word}
 
 tail_passes : (p : ℕ → Bool) (b : ℕ) (bs : List ℕ) → AllPass p (b ∷ bs) → AllPass p bs
@@ -31,14 +32,14 @@ unfolding next
 word before [] h = absurd h
 word before (b ∷ bs) h =
     let long = word_whole b bs h.0 h.1 in
-    let short : nat_le (length (b ∷ bs)) 32 ≡ true = le-leb (length (b ∷ bs)) 32 h.2 in
+    let short : nat_le (length (b ∷ bs)) MOST_NAME ≡ true = le-leb (length (b ∷ bs)) MOST_NAME h.2 in
     ap (λ (c : Bool). if c then word_token (b ∷ bs)
     else (if b == 36 then variable_token bs
     else (if is_digit b then number_token before (b ∷ bs)
     else (if b == 34 then text_token bs
     else (if is_symbol b then Good Symbol 1
     else (if b == 58 then colon_token bs else Bad BadByte)))))) h.0
-    ∙ ap (λ (n : ℕ). if nat_le n 32 then Good Word n else Bad LongName) long
+    ∙ ap (λ (n : ℕ). if nat_le n MOST_NAME then Good Word n else Bad LongName) long
     ∙ ap (λ (c : Bool). if c then Good Word (length (b ∷ bs)) else Bad LongName) short
 
 variable : (before : Before) (w : List ℕ) → IsWordSpelling w → next before (36 ∷ w) ≡ Good Variable (length (36 ∷ w))
@@ -46,10 +47,10 @@ unfolding next
 variable before [] h = absurd h
 variable before (b ∷ bs) h =
     let long = word_whole b bs h.0 h.1 in
-    let short : nat_le (length (b ∷ bs)) 32 ≡ true = le-leb (length (b ∷ bs)) 32 h.2 in
+    let short : nat_le (length (b ∷ bs)) MOST_NAME ≡ true = le-leb (length (b ∷ bs)) MOST_NAME h.2 in
     let one : length (b ∷ bs) + 1 ≡ length (36 ∷ (b ∷ bs)) = omega arith in
-    ap (λ (c : Bool). if c then (if nat_le (word_len (b ∷ bs)) 32 then Good Variable (word_len (b ∷ bs) + 1) else Bad LongName) else Bad BadByte) h.0
-    ∙ ap (λ (n : ℕ). if nat_le n 32 then Good Variable (n + 1) else Bad LongName) long
+    ap (λ (c : Bool). if c then (if nat_le (word_len (b ∷ bs)) MOST_NAME then Good Variable (word_len (b ∷ bs) + 1) else Bad LongName) else Bad BadByte) h.0
+    ∙ ap (λ (n : ℕ). if nat_le n MOST_NAME then Good Variable (n + 1) else Bad LongName) long
     ∙ ap (λ (c : Bool). if c then Good Variable (length (b ∷ bs) + 1) else Bad LongName) short
     ∙ ap (Good Variable) one
 
@@ -134,11 +135,11 @@ reads_text (b ∷ bs) h = by (reads_text bs (tail_passes is_printable b bs h)) (
               ∙ ap (λ (xs : List ℕ). b ∷ xs) more.value;
         }
 
-text : (before : Before) (value : List ℕ) → AllPass is_printable value → length value ≤ 64 → next before (text_spelling value) ≡ Good Text (length (text_spelling value))
+text : (before : Before) (value : List ℕ) → IsTextValue value → next before (text_spelling value) ≡ Good Text (length (text_spelling value))
 unfolding next text_token
-text before value h short =
-    let reads = reads_text value h in
-    let fits : nat_le (length value) 64 ≡ true = le-leb (length value) 64 short in
+text before value h =
+    let reads = reads_text value h.bytes in
+    let fits : nat_le (length value) MOST_TEXT ≡ true = le-leb (length value) MOST_TEXT h.short in
     let long : length (flat_map escaped value) + 1 + 1 ≡ length (text_spelling value) = omega (arith, length-append {A = ℕ} (flat_map escaped value) (34 ∷ [])) in
     (λ i. closed_text (length (reads.value i)) (reads.len i))
     ∙ ap (λ (c : Bool). if c then Good Text (length (flat_map escaped value) + 1 + 1) else Bad LongText) fits

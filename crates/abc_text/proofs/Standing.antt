@@ -13,7 +13,7 @@ use Rattle.abc_text.proofs.Forward.{good_within}
 use Rattle.abc_text.proofs.Alone.{token_alone}
 
 -- what is left is a back part
-IsBack : List ℕ → List ℕ → Type 0
+pub IsBack : List ℕ → List ℕ → Type 0
 IsBack back bytes = (n : ℕ) × (back ≡ drop n bytes) × (n ≤ length bytes)
 
 skip_from_back : (inside : Bool) (bytes : List ℕ) → IsBack (skip_from inside bytes) bytes
@@ -27,26 +27,26 @@ skip_from_back false (b ∷ bs) = by (skip_from_back true bs) (skip_from_back fa
     by comment blank false true = (suc blank.0, blank.1, omega (arith, blank.2))
     by comment blank false false = (0, refl, omega arith)
 
-skip_back : (bytes : List ℕ) → IsBack (skip bytes) bytes
+pub skip_back : (bytes : List ℕ) → IsBack (skip bytes) bytes
 unfolding skip
 skip_back bytes = skip_from_back false bytes
 
-back_back : (a b c : List ℕ) → IsBack a b → IsBack b c → IsBack a c
+pub back_back : (a b c : List ℕ) → IsBack a b → IsBack b c → IsBack a c
 unfolding IsBack
 back_back a b c h k = (k.0 + h.0, h.1 ∙ ap (drop h.0) k.1 ∙ drop-drop h.0 k.0 c, omega (arith, h.2, k.2, ap (length {A = ℕ}) k.1, length-drop {A = ℕ} k.0 c))
 
-drop_back : (n : ℕ) (bytes : List ℕ) → n ≤ length bytes → IsBack (drop n bytes) bytes
+pub drop_back : (n : ℕ) (bytes : List ℕ) → n ≤ length bytes → IsBack (drop n bytes) bytes
 unfolding IsBack
 drop_back n bytes h = (n, refl, h)
 
 -- a back part begins where its length says
-back_at : (place : ℕ) (back bytes : List ℕ) → IsBack back bytes → place + length back ≡ length bytes → drop place bytes ≡ back
+pub back_at : (place : ℕ) (back bytes : List ℕ) → IsBack back bytes → place + length back ≡ length bytes → drop place bytes ≡ back
 unfolding IsBack
 back_at place back bytes h e =
     let same : place ≡ h.0 = omega (arith, e, h.2, ap (length {A = ℕ}) h.1, length-drop {A = ℕ} h.0 bytes) in
     ap (λ (n : ℕ). drop n bytes) same ∙ sym h.1
 
-next_stands : (bytes : List ℕ) (before : Before) (rest : List ℕ) (t : Token) → IsBack rest bytes → IsNext (length bytes) before rest t → StandsIn bytes t
+pub next_stands : (bytes : List ℕ) (before : Before) (rest : List ℕ) (t : Token) → IsBack rest bytes → IsNext (length bytes) before rest t → StandsIn bytes t
 next_stands bytes before rest t back here =
     let w = good_within before (skip rest) t.kind t.len here.token in
     let at = back_at t.place (skip rest) bytes (back_back (skip rest) rest bytes (skip_back rest) back) here.place in

@@ -1,5 +1,5 @@
 -- Laws of the tokens of a text.
-use Rattle.std.specs.Prelude.{◌≡◌, ℕ, ◌+◌, Bool, true, false, List, [], ◌∷◌, ◌++◌, length, Option, Some, All}
+use Rattle.std.specs.Prelude.{◌≡◌, ℕ, ◌+◌, ◌^◌, ◌<◌, ◌⊎◌, Bool, true, false, List, [], ◌∷◌, ◌++◌, length, Option, Some, All}
 use Rattle.std.specs.List.{AllPass}
 use Rattle.abc_text.specs.declared.lexical.TokenKind.{TokenKind}
 use Rattle.abc_text.specs.declared.lexical.TokenKind.TheVariants.{Word, Variable, Number, Text, Symbol}
@@ -8,8 +8,8 @@ use Rattle.abc_text.specs.declared.lexical.Before.TheVariants.{Open}
 use Rattle.abc_text.specs.declared.lexical.Next.TheVariants.{Good}
 use Rattle.abc_text.specs.declared.lexical.Token.{Token}
 use Rattle.abc_text.specs.declared.lexical.Fault.{Fault}
-use Rattle.abc_text.specs.Tokens.{is_blank, is_word_byte, is_digit, next, stands_after, Reads, AreTokens}
-use Rattle.abc_text.specs.Meanings.{StandsIn, named, has_word, names_of}
+use Rattle.abc_text.specs.Tokens.{is_blank, is_word_byte, is_digit, next, stands_after, Reads, AreTokens, IsLexical}
+use Rattle.abc_text.specs.Meanings.{StandsIn, number_of, token_signs, named, names_behind, HasName}
 
 -- ---- one reading
 -- A text is tokens to its end, or tokens and then a first bad one; and it is so in one way.
@@ -69,11 +69,30 @@ SpelledIsRead = (ps : List Piece) → AreSpelled Open ps → AreTokens (text_of 
 abbrev pub TokensStand : Type 0
 TokensStand = (bytes : List ℕ) (ts : List Token) (fault : Option Fault) → Reads bytes ts fault → All (StandsIn bytes) ts
 
+-- ---- faults
+abbrev pub FaultsAreLexical : Type 0
+FaultsAreLexical = (bytes : List ℕ) (ts : List Token) (fault : Fault) → Reads bytes ts (Some fault) → IsLexical fault.cause
+
+-- ---- numbers
+-- the last of these tokens is a sign
+abbrev pub EndsWithSign : List ℕ → List Token → Type 0
+EndsWithSign bytes ts = (fs : List Bool) × (token_signs bytes ts ≡ fs ++ true ∷ [])
+
+-- a number of a text is below 2^63, or it is 2^63 and stands right behind a sign
+abbrev pub NumbersFit : Type 0
+NumbersFit =
+    (bytes : List ℕ) (ts : List Token) (fault : Option Fault) → Reads bytes ts fault →
+    (front back : List Token) (t : Token) → ts ≡ front ++ t ∷ back → t.kind ≡ Number →
+    (number_of bytes t < 2 ^ 63) ⊎ ((number_of bytes t ≡ 2 ^ 63) × EndsWithSign bytes front)
+
 -- ---- names
 -- the names of more tokens begin with the names of the first ones, so a number once given stays
 abbrev pub NamesStay : Type 0
-NamesStay = (bytes : List ℕ) (ts us : List Token) → (more : List (List ℕ)) × (names_of bytes (ts ++ us) ≡ names_of bytes ts ++ more)
+NamesStay =
+    (words : List (List ℕ)) (bytes : List ℕ) (ts us : List Token) →
+    (more : List (List ℕ)) × (names_behind words bytes (ts ++ us) ≡ names_behind words bytes ts ++ more)
 
 -- each word that a token names has a number
 abbrev pub NamedHaveNumbers : Type 0
-NamedHaveNumbers = (bytes : List ℕ) (ts us : List Token) (t : Token) (word : List ℕ) → named bytes t ≡ Some word → has_word (names_of bytes (ts ++ t ∷ us)) word ≡ true
+NamedHaveNumbers =
+    (words : List (List ℕ)) (bytes : List ℕ) (ts : List Token) → All (λ t. HasName (names_behind words bytes ts) (named bytes t)) ts

@@ -1,11 +1,13 @@
 -- The tokens of a text, the first layer of the concrete text. Bytes are numbers; the comment at each
 -- test shows the characters that it is of.
-use Rattle.std.specs.Prelude.{◌≡◌, ℕ, ◌+◌, ◌-◌, ◌*◌, ◌^◌, ◌==◌, Bool, true, false, not, ◌||◌, ◌&&◌, nat_le, if◌then◌else◌, List, [], ◌∷◌, length, take_while, take, drop, fold, codes, Option, Some, None}
+use Rattle.std.specs.Prelude.{◌≡◌, ℕ, ◌+◌, ◌-◌, ◌*◌, ◌==◌, Bool, true, false, not, ◌||◌, ◌&&◌, nat_le, if◌then◌else◌, List, [], ◌∷◌, length, take_while, take, drop, fold, codes, Option, Some, None}
 use Rattle.std.specs.List.{list_any}
 use Rattle.std.specs.Str.{bytes_eq}
 use Rattle.abc_text.specs.declared.lexical.TokenKind.{TokenKind}
 use Rattle.abc_text.specs.declared.lexical.TokenKind.TheVariants.{Word, Variable, Number, Text, Symbol}
+use Rattle.abc_cause.specs.declared.Cause.{Cause}
 use Rattle.abc_cause.specs.declared.Cause.TheVariants.{BadByte, BadText, LongText, LongName, WideNumber}
+use Rattle.abc_text.specs.declared.limits.TheConstants.{MOST_NAME, MOST_TEXT, MOST_NUMBER}
 use Rattle.abc_text.specs.declared.lexical.Before.{Before}
 use Rattle.abc_text.specs.declared.lexical.Before.TheVariants.{Open, Operand, Sign}
 use Rattle.abc_text.specs.declared.lexical.Next.{Next}
@@ -75,15 +77,15 @@ is_literal_word word = list_any (λ k. bytes_eq k word) literal_words
 abbrev pub word_len : List ℕ → ℕ
 word_len bytes = length (take_while is_word_byte bytes)
 
--- a word of at most 32 bytes
+-- a word of at most so many bytes
 abbrev pub word_token : List ℕ → Next
-word_token bytes = if nat_le (word_len bytes) 32 then Good Word (word_len bytes) else Bad LongName
+word_token bytes = if nat_le (word_len bytes) MOST_NAME then Good Word (word_len bytes) else Bad LongName
 
 -- what stands behind a $: a word
 abbrev pub variable_token : List ℕ → Next
 variable_token [] = Bad BadByte
 variable_token (b ∷ bs) =
-    if is_letter b then (if nat_le (word_len (b ∷ bs)) 32 then Good Variable (word_len (b ∷ bs) + 1) else Bad LongName)
+    if is_letter b then (if nat_le (word_len (b ∷ bs)) MOST_NAME then Good Variable (word_len (b ∷ bs) + 1) else Bad LongName)
     else Bad BadByte
 
 -- ---- numbers
@@ -91,11 +93,11 @@ variable_token (b ∷ bs) =
 abbrev pub decimal : List ℕ → ℕ
 decimal digits = fold (λ n b. n * 10 + (b - 48)) 0 digits
 
--- the greatest number is 2^63 after a sign and one less elsewhere
+-- the greatest number stands after a sign alone; elsewhere it is one less
 abbrev pub greatest : Before → ℕ
-greatest Sign = 2 ^ 63
-greatest Open = 2 ^ 63 - 1
-greatest Operand = 2 ^ 63 - 1
+greatest Sign = MOST_NUMBER
+greatest Open = MOST_NUMBER - 1
+greatest Operand = MOST_NUMBER - 1
 
 -- the longest run of digits
 unfoldable pub number_token : Before → List ℕ → Next
@@ -128,13 +130,23 @@ text_value true (b ∷ bs) = b ∷ text_value false bs
 text_value false (b ∷ bs) =
     if b == 34 then [] else (if b == 92 then text_value true bs else b ∷ text_value false bs)
 
--- a text of at most 64 bytes, by the number of bytes behind the opening quote
+-- a text of at most so many bytes, by the number of bytes behind the opening quote
 abbrev pub closed_text : ℕ → Option ℕ → Next
 closed_text size None = Bad BadText
-closed_text size (Some n) = if nat_le size 64 then Good Text (n + 1) else Bad LongText
+closed_text size (Some n) = if nat_le size MOST_TEXT then Good Text (n + 1) else Bad LongText
 
 unfoldable pub text_token : List ℕ → Next
 text_token bytes = closed_text (length (text_value false bytes)) (text_len false bytes)
+
+-- ---- faults
+-- the causes of bad tokens
+abbrev pub IsLexical : Cause → Type 0
+IsLexical BadByte = Unit {0}
+IsLexical BadText = Unit {0}
+IsLexical LongText = Unit {0}
+IsLexical LongName = Unit {0}
+IsLexical WideNumber = Unit {0}
+IsLexical _ = ⊥
 
 -- ---- the next token
 -- the two bytes :=, by what stands behind the :

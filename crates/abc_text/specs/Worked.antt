@@ -1,12 +1,13 @@
 -- Worked examples of tokens.
-use Rattle.std.specs.Prelude.{ℕ, [], ◌∷◌, Option, Some, codes}
+use Rattle.std.specs.Prelude.{ℕ, List, [], ◌∷◌, Option, Some, codes, replicate}
 use Rattle.abc_text.specs.declared.lexical.TokenKind.{TokenKind}
 use Rattle.abc_text.specs.declared.lexical.TokenKind.TheVariants.{Word, Variable, Number, Text, Symbol}
 use Rattle.abc_cause.specs.declared.Cause.{Cause}
-use Rattle.abc_cause.specs.declared.Cause.TheVariants.{BadByte, BadText, WideNumber}
+use Rattle.abc_cause.specs.declared.Cause.TheVariants.{BadByte, BadText, LongText, LongName, WideNumber}
 use Rattle.abc_text.specs.declared.lexical.Token.{Token}
 use Rattle.abc_text.specs.declared.lexical.Fault.{Fault}
 use Rattle.abc_text.specs.Tokens.{Reads, AreTokens}
+use Rattle.abc_text.specs.Spelling.{IsWordSpelling, IsTextValue, text_spelling}
 
 abbrev pub token_of : TokenKind → ℕ → ℕ → Token
 token_of kind place len = record { kind = kind; place = place; len = len }
@@ -29,3 +30,31 @@ pub record WorkedTokens : Type 0 where
   -- bad tokens
   pub colon : Reads (codes "a : = b") (token_of Word 0 1 ∷ []) (fault_of 2 BadByte)
   pub open_text : Reads (codes "{ \"a") (token_of Symbol 0 1 ∷ []) (fault_of 2 BadText)
+
+-- so many times the letter a, and the quote
+abbrev pub letters : ℕ → List ℕ
+letters n = replicate n 97
+
+abbrev pub quotes : ℕ → List ℕ
+quotes n = replicate n 34
+
+pub record WorkedLimits : Type 0 where
+  -- names of 32 and of 33 bytes
+  pub name : AreTokens (letters 32) (token_of Word 0 32 ∷ [])
+  pub long_name : Reads (letters 33) [] (fault_of 0 LongName)
+  pub variable : AreTokens (36 ∷ letters 32) (token_of Variable 0 33 ∷ [])
+  pub long_variable : Reads (36 ∷ letters 33) [] (fault_of 0 LongName)
+  pub spelled_name : IsWordSpelling (letters 32)
+  pub no_spelled_name : ¬ IsWordSpelling (letters 33)
+  -- texts of 64 and of 65 bytes, also where each is written with a backslash; one that isn't closed is no long text
+  pub text : AreTokens (text_spelling (letters 64)) (token_of Text 0 66 ∷ [])
+  pub long_text : Reads (text_spelling (letters 65)) [] (fault_of 0 LongText)
+  pub quoted : AreTokens (text_spelling (quotes 64)) (token_of Text 0 130 ∷ [])
+  pub long_quoted : Reads (text_spelling (quotes 65)) [] (fault_of 0 LongText)
+  pub open_text : Reads (34 ∷ letters 65) [] (fault_of 0 BadText)
+  pub spelled_text : IsTextValue (letters 64)
+  pub no_spelled_text : ¬ IsTextValue (letters 65)
+  -- 2^63 - 1 and 2^63 behind no sign, 2^63 + 1 behind one
+  pub number : AreTokens (codes "9223372036854775807") (token_of Number 0 19 ∷ [])
+  pub wide_number : Reads (codes "9223372036854775808") [] (fault_of 0 WideNumber)
+  pub wide_signed : Reads (codes "-9223372036854775809") (token_of Symbol 0 1 ∷ []) (fault_of 1 WideNumber)

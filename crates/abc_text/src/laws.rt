@@ -1,7 +1,7 @@
 //! Laws of the definitions, each the contract of a function that does nothing.
-ghost use Rattle.abc_text.specs.Laws.{OneReading, SpelledIsRead, TokensStand, NamesStay, NamedHaveNumbers};
+ghost use Rattle.abc_text.specs.Laws.{OneReading, SpelledIsRead, TokensStand, FaultsAreLexical, NumbersFit, NamesStay, NamedHaveNumbers};
 ghost use Rattle.abc_text.specs.Spelling.{Spellings};
-ghost use Rattle.abc_text.specs.Worked.{WorkedTokens};
+ghost use Rattle.abc_text.specs.Worked.{WorkedTokens, WorkedLimits};
 
 /// Each text is tokens to its end, or tokens and then a first bad one, in exactly one way.
 pub fn one_reading()
@@ -23,6 +23,16 @@ pub fn spellings()
     ensures { Spellings }
 {}
 
+/// A bad token is bad for one of the five causes of tokens.
+pub fn faults_are_lexical()
+    ensures { FaultsAreLexical }
+{}
+
+/// A number of a text is below 2^63, or it is 2^63 and stands right behind a sign.
+pub fn numbers_fit()
+    ensures { NumbersFit }
+{}
+
 /// The numbers of names stay as more tokens come.
 pub fn names_stay()
     ensures { NamesStay }
@@ -36,4 +46,9 @@ pub fn named_have_numbers()
 /// Tokens worked through the definitions.
 pub fn worked_tokens()
     ensures { WorkedTokens }
+{}
+
+/// Tokens on both sides of their limits.
+pub fn worked_limits()
+    ensures { WorkedLimits }
 {}

@@ -6,10 +6,12 @@
 
 mod laws;
 mod lexical;
+mod limits;
 
 pub use abc_cause::Cause;
 pub use laws::{
-    named_have_numbers, names_stay, one_reading, spelled_is_read, spellings, tokens_stand,
-    worked_tokens,
+    faults_are_lexical, named_have_numbers, names_stay, numbers_fit, one_reading, spelled_is_read,
+    spellings, tokens_stand, worked_limits, worked_tokens,
 };
 pub use lexical::{Before, Fault, Next, Token, TokenKind};
+pub use limits::{MOST_NAME, MOST_NUMBER, MOST_TEXT, token_limits};

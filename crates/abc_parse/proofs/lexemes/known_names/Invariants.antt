@@ -1,5 +1,5 @@
 use Rattle.std.proofs.Common.{◌≡◌, take, drop}
-use Rattle.abc_parse.specs.Naming.{AreNew}
+use Rattle.abc_text.specs.Meanings.{AreNew}
 use Rattle.abc_parse.proofs.lexemes.known_names.Given as goal
 
 abbrev pub invariant-loop-name : goal.invariant-loop-name

@@ -1,5 +1,5 @@
 use Rattle.std.proofs.Common.{◌≡◌, ◌≤◌, ◌+◌, length, take}
-use Rattle.abc_grammar.specs.Fronts.{names_behind}
+use Rattle.abc_text.specs.Meanings.{names_behind}
 use Rattle.abc_parse.proofs.lexemes.numbered.Given as goal
 
 abbrev pub invariant-loop-token : goal.invariant-loop-token

@@ -1,0 +1,5 @@
+use Rattle.abc_grammar_laws.proofs.Shorts.{tuples_are_short, sets_are_short}
+use Rattle.abc_grammar_laws.proofs.laws.limits_hold.Goals as goal
+
+pub returns : goal.returns
+returns c = record { tuples = tuples_are_short; sets = sets_are_short }

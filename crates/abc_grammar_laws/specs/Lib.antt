@@ -1,0 +1,4 @@
+pub mod Short
+pub mod Numbered
+pub mod Marks
+pub mod Meeting

@@ -1,0 +1,29 @@
+//! The laws, each the contract of a function that does nothing.
+ghost use Rattle.abc_grammar_laws.specs.Short.{TuplesAreShort, SetsAreShort};
+ghost use Rattle.abc_grammar_laws.specs.Numbered.{NamesAreNumbered};
+ghost use Rattle.abc_grammar_laws.specs.Marks.{MarksStand};
+ghost use Rattle.abc_grammar_laws.specs.Meeting.{LimitsMeet};
+
+/// In an accepted text each output has at most eight expressions, each input at most eight variables,
+/// and each set literal at most 256 scalars as it is written.
+pub fn limits_hold()
+    ensures tuples { TuplesAreShort }
+    ensures sets { SetsAreShort }
+{}
+
+/// Each name that an accepted program holds has a number below the number of its names.
+pub fn names_are_numbered()
+    ensures { NamesAreNumbered }
+{}
+
+/// In a text of the grammar an `@` stands behind the tuple of an output alone, of lists in brackets only
+/// the variables of an input are followed by a `.`, and a `{` before scalars and a comma opens a set
+/// literal.
+pub fn marks_stand()
+    ensures { MarksStand }
+{}
+
+/// No token begins a ninth expression or variable and a 257th scalar at once.
+pub fn limits_meet()
+    ensures { LimitsMeet }
+{}

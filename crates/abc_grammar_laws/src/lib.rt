@@ -1,0 +1,7 @@
+//! Laws of the grammar and its limits that the crates above cite, apart from their definitions: what
+//! an accepted text gives, and what the marks that the limits speak of stand for.
+#![tactic(auto)]
+
+mod laws;
+
+pub use laws::{limits_hold, limits_meet, marks_stand, names_are_numbered};
