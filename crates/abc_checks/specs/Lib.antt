@@ -2,7 +2,6 @@ pub mod Parts
 pub mod Variables
 pub mod Sites
 pub mod Scopes
-pub mod Reaching
 pub mod Graphs
 pub mod Measures
 pub mod Tables

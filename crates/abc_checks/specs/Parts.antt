@@ -3,7 +3,6 @@ use Rattle.std.specs.Prelude.{ℕ, suc, ◌||◌, Bool, true, false, List, [], �
 use Rattle.abc_pred.specs.declared.names.Name.{Name}
 use Rattle.abc_pred.specs.Maps.{lists, same_name}
 use Rattle.abc_term.specs.Processes.{Process, Nil, Output, Input, When, Choice, Par, Call, Definitions}
-pub use Rattle.abc_term.specs.Calls.{calls, unguarded_calls}
 
 -- A name stands twice in the list.
 abbrev pub repeats : List Name → Bool

@@ -17,8 +17,8 @@ use Rattle.abc_cause.specs.declared.CheckCause.TheVariants as cause
 use Rattle.abc_checks.specs.declared.causes.Site.{Site}
 use Rattle.abc_checks.specs.declared.causes.Site.TheVariants.{Definition, Component, Whole}
 use Rattle.abc_checks.specs.Sites.{AtSite, ComesBefore}
-use Rattle.abc_checks.specs.Parts.{repeats, repeats_variable, calls, unguarded_calls}
-use Rattle.abc_checks.specs.Reaching.{Reaches, holds_par}
+use Rattle.abc_term.specs.Calls.{calls, unguarded_calls, Reaches}
+use Rattle.abc_checks.specs.Parts.{repeats, repeats_variable, holds_par}
 use Rattle.abc_checks.specs.Variables.{process_open}
 use Rattle.abc_checks.specs.Measures.{IsTooWide, HasTooManyMoves}
 use Rattle.abc_checks.specs.declared.limits.TheConstants.{MOST_COMPONENTS}
