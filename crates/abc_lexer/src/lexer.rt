@@ -10,8 +10,8 @@ use crate::run::{
 };
 use crate::signs::stands_after;
 use abc_cause::Cause;
-use abc_text::{Before, Fault, MOST_NAME, MOST_NUMBER, MOST_TEXT, Next, Token, TokenKind};
-use abc_value::{List, NoMemory};
+use abc_text::{Before, Fault, MOST_NAME, MOST_NUMBER, Next, Token, TokenKind};
+use abc_value::{LONGEST_TEXT, List, NoMemory};
 use std::alloc::Global;
 
 fn word_token(bytes: &[u8]) -> Next
@@ -71,7 +71,7 @@ fn text_token(bytes: &[u8]) -> Next
     match text_lens(bytes) {
         None => Next::Bad(Cause::BadText),
         Some((len, size)) => {
-            if size <= MOST_TEXT {
+            if size <= LONGEST_TEXT {
                 Next::Good(TokenKind::Text, len + 1)
             } else {
                 Next::Bad(Cause::LongText)

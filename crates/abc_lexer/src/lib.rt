@@ -11,6 +11,6 @@ mod signs;
 pub use abc_cause::Cause;
 pub use abc_text::{Fault, Token, TokenKind};
 pub use lexer::{Scanned, scan, tokens};
-pub use meaning::{behind_first, named, number, spelling, text};
+pub use meaning::{named, number, spelling, text};
 pub use naming::{Names, names_of};
 pub use refusal::TextRefusal;

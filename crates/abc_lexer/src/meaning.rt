@@ -9,7 +9,7 @@ ghost use Rattle.abc_text.specs.Meanings as spec;
 use crate::run::capped_decimal;
 use crate::signs::is_keyword;
 use abc_text::{Token, TokenKind};
-use abc_value::ShortText;
+use abc_value::{ShortText, behind_first};
 
 /// The bytes of a token of the text.
 pub fn spelling(bytes: &[u8], token: Token) -> &[u8]
@@ -64,16 +64,6 @@ pub fn text(bytes: &[u8], token: Token) -> ShortText
     ensures { result ≡ spec.text_at bytes.now token }
 {
     unescaped(behind_first(spelling(bytes, token)))
-}
-
-/// The bytes behind the first one.
-pub fn behind_first(bytes: &[u8]) -> &[u8]
-    ensures { result.now ≡ drop 1 bytes.now }
-{
-    match bytes.split_first() {
-        Some((_, rest)) => rest,
-        None => bytes,
-    }
 }
 
 /// The word that a token names: that of a name, or of a variable without its `$`.

@@ -6,9 +6,9 @@ ghost use Rattle.abc_grammar.specs.Lexemes as spec;
 ghost use Rattle.abc_text.specs.Meanings.{names_behind, AreDifferent, HasName};
 
 use abc_grammar::{Keyword, Lexeme, Mark};
-use abc_lexer::{Names, Token, TokenKind, behind_first, named, number, spelling, text};
+use abc_lexer::{Names, Token, TokenKind, named, number, spelling, text};
 use abc_pred::Name;
-use abc_value::{List, NoMemory, ShortText};
+use abc_value::{List, NoMemory, ShortText, behind_first};
 use std::alloc::Global;
 
 const KEYWORDS: [Keyword; 21] = [

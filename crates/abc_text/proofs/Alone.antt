@@ -10,7 +10,8 @@ use Rattle.abc_cause.specs.declared.Cause.TheVariants.{BadByte, BadText, LongTex
 use Rattle.abc_text.specs.declared.lexical.Before.{Before}
 use Rattle.abc_text.specs.declared.lexical.Next.{Next}
 use Rattle.abc_text.specs.declared.lexical.Next.TheVariants.{End, Good, Bad}
-use Rattle.abc_text.specs.declared.limits.TheConstants.{MOST_NAME, MOST_TEXT}
+use Rattle.abc_value.specs.declared.limits.TheConstants.{LONGEST_TEXT}
+use Rattle.abc_text.specs.declared.limits.TheConstants.{MOST_NAME}
 use Rattle.abc_text.specs.Tokens.{is_letter, is_digit, is_word_byte, is_symbol, is_quote_mark, is_printable, word_len, word_token, variable_token, decimal, greatest, number_token, one_more, text_len, text_value, closed_text, text_token, colon_token, token_at, next}
 use Rattle.abc_text.proofs.Lengths.{none_some, some_same, more_some}
 use Rattle.abc_text.proofs.Forward.{run_long, letter_is_word, good_within}
@@ -153,7 +154,7 @@ closes_at false (b ∷ w) n e = by (closes_at true w) (closes_at false w) (b == 
 
 closed_good : (size : ℕ) (o : Option ℕ) (k : TokenKind) (n : ℕ) → closed_text size o ≡ Good k (suc n) → o ≡ Some n
 closed_good size None k n e = absurd (let e' : Bad BadText ≡ Good k (suc n) = e in cc)
-closed_good size (Some m) k n e = by (nat_le size MOST_TEXT) e
+closed_good size (Some m) k n e = by (nat_le size LONGEST_TEXT) e
   where
     by : (c : Bool) → (if c then Good Text (m + 1) else Bad LongText) ≡ Good k (suc n) → Some m ≡ Some n
     by true e = let e' = good_len Text k (m + 1) (suc n) e in let same : m ≡ n = omega (arith, e') in ap Some same

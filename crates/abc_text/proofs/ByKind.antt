@@ -7,14 +7,15 @@ use Rattle.abc_cause.specs.declared.Cause.TheVariants.{BadByte, BadText, LongTex
 use Rattle.abc_text.specs.declared.lexical.Before.{Before}
 use Rattle.abc_text.specs.declared.lexical.Next.{Next}
 use Rattle.abc_text.specs.declared.lexical.Next.TheVariants.{End, Good, Bad}
-use Rattle.abc_text.specs.declared.limits.TheConstants.{MOST_NAME, MOST_TEXT}
+use Rattle.abc_value.specs.declared.limits.TheConstants.{LONGEST_TEXT}
+use Rattle.abc_text.specs.declared.limits.TheConstants.{MOST_NAME}
 use Rattle.abc_text.specs.Tokens.{is_letter, is_digit, is_symbol, word_len, variable_token, decimal, greatest, number_token, text_len, text_value, closed_text, text_token, colon_token, IsLexical, next}
 
 module _ (before : Before) (P : List ℕ → Next → Type 0) (end : P [] End) (bad : (bs : List ℕ) (c : Cause) → IsLexical c → P bs (Bad c))
     (word : (b : ℕ) (bs : List ℕ) → nat_le (word_len (b ∷ bs)) MOST_NAME ≡ true → P (b ∷ bs) (Good Word (word_len (b ∷ bs))))
     (variable : (b : ℕ) (bs : List ℕ) → nat_le (word_len bs) MOST_NAME ≡ true → P (b ∷ bs) (Good Variable (word_len bs + 1)))
     (number : (bs : List ℕ) → nat_le (decimal (take_while is_digit bs)) (greatest before) ≡ true → P bs (Good Number (length (take_while is_digit bs))))
-    (text : (b : ℕ) (bs : List ℕ) (n : ℕ) → text_len false bs ≡ Some n → nat_le (length (text_value false bs)) MOST_TEXT ≡ true → P (b ∷ bs) (Good Text (n + 1)))
+    (text : (b : ℕ) (bs : List ℕ) (n : ℕ) → text_len false bs ≡ Some n → nat_le (length (text_value false bs)) LONGEST_TEXT ≡ true → P (b ∷ bs) (Good Text (n + 1)))
     (symbol : (b : ℕ) (bs : List ℕ) → is_symbol b ≡ true → P (b ∷ bs) (Good Symbol 1))
     (becomes : (b x : ℕ) (xs : List ℕ) → (b == 58) ≡ true → (x == 61) ≡ true → P (b ∷ (x ∷ xs)) (Good Symbol 2)) where
   if_next : (bs : List ℕ) (c : Bool) (x y : Next) → (c ≡ true → P bs x) → P bs y → P bs (if c then x else y)
@@ -34,7 +35,7 @@ module _ (before : Before) (P : List ℕ → Next → Type 0) (end : P [] End) (
 
   if_closed : (b : ℕ) (bs : List ℕ) (o : Option ℕ) → text_len false bs ≡ o → P (b ∷ bs) (closed_text (length (text_value false bs)) o)
   if_closed b bs None e = bad (b ∷ bs) BadText tt
-  if_closed b bs (Some n) e = if_next (b ∷ bs) (nat_le (length (text_value false bs)) MOST_TEXT) (Good Text (n + 1)) (Bad LongText) (text b bs n e) (bad (b ∷ bs) LongText tt)
+  if_closed b bs (Some n) e = if_next (b ∷ bs) (nat_le (length (text_value false bs)) LONGEST_TEXT) (Good Text (n + 1)) (Bad LongText) (text b bs n e) (bad (b ∷ bs) LongText tt)
 
   if_text : (b : ℕ) (bs : List ℕ) → P (b ∷ bs) (text_token bs)
   unfolding text_token

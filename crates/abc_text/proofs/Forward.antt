@@ -9,7 +9,8 @@ use Rattle.abc_cause.specs.declared.Cause.TheVariants.{BadByte, LongText, LongNa
 use Rattle.abc_text.specs.declared.lexical.Before.{Before}
 use Rattle.abc_text.specs.declared.lexical.Next.{Next}
 use Rattle.abc_text.specs.declared.lexical.Next.TheVariants.{End, Good, Bad}
-use Rattle.abc_text.specs.declared.limits.TheConstants.{MOST_NAME, MOST_TEXT}
+use Rattle.abc_value.specs.declared.limits.TheConstants.{LONGEST_TEXT}
+use Rattle.abc_text.specs.declared.limits.TheConstants.{MOST_NAME}
 use Rattle.abc_text.specs.Tokens.{is_blank, is_letter, is_digit, is_word_byte, is_symbol, is_quote_mark, is_printable, one_more, skip_from, skip, word_len, word_token, variable_token, decimal, greatest, number_token, text_len, text_value, closed_text, text_token, colon_token, token_at, next}
 
 skip_from_le : (inside : Bool) (bytes : List ℕ) → length (skip_from inside bytes) ≤ length bytes
@@ -87,7 +88,7 @@ text_at_most false (b ∷ bs) =
 closed_within : (most size : ℕ) (n : Option ℕ) → IsAtMost most n → IsWithin (suc most) (closed_text size n)
 unfolding IsWithin IsAtMost
 closed_within most size None h = tt
-closed_within most size (Some n) h = if_within (suc most) (nat_le size MOST_TEXT) (Good Text (n + 1)) (Bad LongText) (λ _. (omega arith, omega arith)) (λ _. tt)
+closed_within most size (Some n) h = if_within (suc most) (nat_le size LONGEST_TEXT) (Good Text (n + 1)) (Bad LongText) (λ _. (omega arith, omega arith)) (λ _. tt)
 
 text_within : (bs : List ℕ) → IsWithin (suc (length bs)) (text_token bs)
 unfolding text_token

@@ -16,7 +16,8 @@ use Rattle.abc_text.specs.declared.lexical.Next.TheVariants.{End, Good, Bad}
 use Rattle.abc_text.specs.declared.lexical.Token.{Token}
 use Rattle.abc_text.specs.Tokens.{is_letter, is_digit, is_word_byte, is_symbol, is_quote_mark, is_printable, word_len, variable_token, decimal, greatest, number_token, one_more, text_len, text_value, closed_text, text_token, colon_token, next}
 use Rattle.abc_text.specs.Meanings.{spelling, StandsIn, number_of, text_at}
-use Rattle.abc_text.specs.declared.limits.TheConstants.{MOST_NAME, MOST_TEXT}
+use Rattle.abc_value.specs.declared.limits.TheConstants.{LONGEST_TEXT}
+use Rattle.abc_text.specs.declared.limits.TheConstants.{MOST_NAME}
 use Rattle.abc_text.specs.Spelling.{IsWord, IsTextValue}
 use Rattle.abc_text.proofs.Lengths.{none_some, more_some}
 use Rattle.abc_text.proofs.ByKind.{by_kind}
@@ -141,7 +142,7 @@ IfText bytes (Good Symbol n) = Unit {0}
 text_is : (before : Before) (bytes : List ℕ) → IfText bytes (next before bytes)
 unfolding IfText
 text_is before = by_kind before IfText tt (λ _ _ _. tt) (λ _ _ _. tt) (λ _ _ _. tt) (λ _ _. tt)
-    (λ b bs n e h. (omega arith, record { short = leb-true (length (text_value false bs)) MOST_TEXT h; bytes = printable false bs n e })) (λ _ _ _. tt) (λ _ _ _ _ _. tt)
+    (λ b bs n e h. (omega arith, record { short = leb-true (length (text_value false bs)) LONGEST_TEXT h; bytes = printable false bs n e })) (λ _ _ _. tt) (λ _ _ _ _ _. tt)
 
 pub text-stands : (bytes : List ℕ) (t : Token) → StandsIn bytes t → t.kind ≡ Text → (0 < length (spelling bytes t)) × IsTextValue (text_at bytes t)
 unfolding IfText

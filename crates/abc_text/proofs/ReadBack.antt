@@ -10,7 +10,8 @@ use Rattle.abc_text.specs.declared.lexical.TokenKind.TheVariants.{Word, Variable
 use Rattle.abc_cause.specs.declared.Cause.TheVariants.{BadByte, LongText, LongName, WideNumber}
 use Rattle.abc_text.specs.declared.lexical.Before.{Before}
 use Rattle.abc_text.specs.declared.lexical.Next.TheVariants.{Good, Bad}
-use Rattle.abc_text.specs.declared.limits.TheConstants.{MOST_NAME, MOST_TEXT}
+use Rattle.abc_value.specs.declared.limits.TheConstants.{LONGEST_TEXT}
+use Rattle.abc_text.specs.declared.limits.TheConstants.{MOST_NAME}
 use Rattle.abc_text.specs.Tokens.{is_letter, is_digit, is_word_byte, is_symbol, is_quote_mark, is_printable, word_len, word_token, variable_token, decimal, greatest, number_token, one_more, text_len, text_value, closed_text, text_token, colon_token, next}
 use Rattle.abc_text.specs.Spelling.{IsWordSpelling, IsTextValue, text_spelling, Spellings}
 use Rattle.abc_text.proofs.Forward.{letter_is_word}
@@ -139,7 +140,7 @@ text : (before : Before) (value : List ℕ) → IsTextValue value → next befor
 unfolding next text_token
 text before value h =
     let reads = reads_text value h.bytes in
-    let fits : nat_le (length value) MOST_TEXT ≡ true = le-leb (length value) MOST_TEXT h.short in
+    let fits : nat_le (length value) LONGEST_TEXT ≡ true = le-leb (length value) LONGEST_TEXT h.short in
     let long : length (flat_map escaped value) + 1 + 1 ≡ length (text_spelling value) = omega (arith, length-append {A = ℕ} (flat_map escaped value) (34 ∷ [])) in
     (λ i. closed_text (length (reads.value i)) (reads.len i))
     ∙ ap (λ (c : Bool). if c then Good Text (length (flat_map escaped value) + 1 + 1) else Bad LongText) fits

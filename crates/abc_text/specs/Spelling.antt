@@ -5,7 +5,8 @@ use Rattle.abc_value.specs.Literals.{escaped}
 use Rattle.abc_text.specs.declared.lexical.TokenKind.TheVariants.{Word, Variable, Number, Text}
 use Rattle.abc_text.specs.declared.lexical.Before.{Before}
 use Rattle.abc_text.specs.declared.lexical.Next.TheVariants.{Good}
-use Rattle.abc_text.specs.declared.limits.TheConstants.{MOST_NAME, MOST_TEXT}
+use Rattle.abc_value.specs.declared.limits.TheConstants.{LONGEST_TEXT}
+use Rattle.abc_text.specs.declared.limits.TheConstants.{MOST_NAME}
 use Rattle.abc_text.specs.Tokens.{is_letter, is_digit, is_word_byte, is_printable, decimal, greatest, text_value, next}
 
 -- the bytes of a word: letters, digits and _, at most so many
@@ -20,7 +21,7 @@ IsWordSpelling (b ∷ bs) = (is_letter b ≡ true) × AllPass is_word_byte bs ×
 
 -- what a text stands for: printable bytes, at most so many
 pub record IsTextValue (value : List ℕ) : Type 0 where
-  pub short : length value ≤ MOST_TEXT
+  pub short : length value ≤ LONGEST_TEXT
   pub bytes : AllPass is_printable value
 
 -- the text that stands for these bytes

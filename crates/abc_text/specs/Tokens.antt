@@ -7,7 +7,8 @@ use Rattle.abc_text.specs.declared.lexical.TokenKind.{TokenKind}
 use Rattle.abc_text.specs.declared.lexical.TokenKind.TheVariants.{Word, Variable, Number, Text, Symbol}
 use Rattle.abc_cause.specs.declared.Cause.{Cause}
 use Rattle.abc_cause.specs.declared.Cause.TheVariants.{BadByte, BadText, LongText, LongName, WideNumber}
-use Rattle.abc_text.specs.declared.limits.TheConstants.{MOST_NAME, MOST_TEXT, MOST_NUMBER}
+use Rattle.abc_value.specs.declared.limits.TheConstants.{LONGEST_TEXT}
+use Rattle.abc_text.specs.declared.limits.TheConstants.{MOST_NAME, MOST_NUMBER}
 use Rattle.abc_text.specs.declared.lexical.Before.{Before}
 use Rattle.abc_text.specs.declared.lexical.Before.TheVariants.{Open, Operand, Sign}
 use Rattle.abc_text.specs.declared.lexical.Next.{Next}
@@ -133,7 +134,7 @@ text_value false (b ∷ bs) =
 -- a text of at most so many bytes, by the number of bytes behind the opening quote
 abbrev pub closed_text : ℕ → Option ℕ → Next
 closed_text size None = Bad BadText
-closed_text size (Some n) = if nat_le size MOST_TEXT then Good Text (n + 1) else Bad LongText
+closed_text size (Some n) = if nat_le size LONGEST_TEXT then Good Text (n + 1) else Bad LongText
 
 unfoldable pub text_token : List ℕ → Next
 text_token bytes = closed_text (length (text_value false bytes)) (text_len false bytes)

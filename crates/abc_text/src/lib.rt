@@ -14,4 +14,4 @@ pub use laws::{
     spellings, tokens_stand, worked_limits, worked_tokens,
 };
 pub use lexical::{Before, Fault, Next, Token, TokenKind};
-pub use limits::{MOST_NAME, MOST_NUMBER, MOST_TEXT, token_limits};
+pub use limits::{MOST_NAME, MOST_NUMBER, token_limits};
