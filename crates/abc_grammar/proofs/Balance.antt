@@ -42,11 +42,13 @@ closed t ts e h n = open_behind-append ts (t ∷ []) (n + 1) ∙ ap (λ m. open_
 one_less : (n : ℕ) → n + 1 - 1 ≡ n
 one_less n = omega arith
 
-pub listed_balance : {A : Type 0} {Item : List Lexeme → A → Type 0} {ts : List Lexeme} {items : List A} → ((us : List Lexeme) (a : A) → Item us a → Balanced us) → AreListed Item ts items → Balanced ts
+pub listed_balance : {A : Type 0} {Item : List Lexeme → A → Type 0} {ts : List Lexeme} {items : List A} →
+    ((us : List Lexeme) (a : A) → Item us a → Balanced us) → AreListed Item ts items → Balanced ts
 listed_balance each (listed.one {ts} {a} h) = each ts a h
 listed_balance each (listed.more {ts} {us} {a = a} before h) = both ts (l.Mark m.Comma ∷ us) (listed_balance each before) (each us a h)
 
-pub optional_balance : {A : Type 0} {Item : List Lexeme → A → Type 0} {ts : List Lexeme} {items : List A} → ((us : List Lexeme) (a : A) → Item us a → Balanced us) → MayBeListed Item ts items → Balanced ts
+pub optional_balance : {A : Type 0} {Item : List Lexeme → A → Type 0} {ts : List Lexeme} {items : List A} →
+    ((us : List Lexeme) (a : A) → Item us a → Balanced us) → MayBeListed Item ts items → Balanced ts
 optional_balance each listed.none = λ n. refl
 optional_balance each (listed.some h) = listed_balance each h
 

@@ -24,7 +24,8 @@ commas-take zero ts = omega arith
 commas-take (suc k) [] = omega arith
 commas-take (suc k) (t ∷ ts) = let more = commas-take k ts in omega (arith, more)
 
-listed_commas : {A : Type 0} {Item : List Lexeme → A → Type 0} {ts : List Lexeme} {items : List A} → AreListed Item ts items → length items ≤ commas ts + 1
+listed_commas : {A : Type 0} {Item : List Lexeme → A → Type 0} {ts : List Lexeme} {items : List A} → AreListed Item ts items →
+    length items ≤ commas ts + 1
 listed_commas (listed.one h) = omega arith
 listed_commas {A} (listed.more {ts} {us} {items} {a} first h) =
     let before = listed_commas first in
@@ -36,4 +37,11 @@ pub enough_commas :
     AreListed Item parts items → take k ts ≡ before ++ t ∷ parts ++ l.Mark m.Comma ∷ [] → length items ≤ commas ts
 enough_commas {parts = parts} k ts before t h e =
     let whole = ap commas e in
-    omega (arith, whole, listed_commas h, commas-take k ts, commas-append (before ++ t ∷ parts) (l.Mark m.Comma ∷ []), commas-append before (t ∷ parts))
+    omega (
+      arith,
+      whole,
+      listed_commas h,
+      commas-take k ts,
+      commas-append (before ++ t ∷ parts) (l.Mark m.Comma ∷ []),
+      commas-append before (t ∷ parts),
+    )

@@ -28,7 +28,8 @@ take-short k ts = by (cases_lt k (length ts))
     by (inr le) = let long = ap length (take_all k ts le) in omega (arith, long)
 
 no_limit : (c : Cause) (ts : List Lexeme) (k : ℕ) → length ts < 100 → commas ts < 8 → ¬ PassesLimit IsSomeProgram IsTooLarge c ts k
-no_limit cause.TooDeep ts k short few h = let full = h.full in let open_few = few_open (take k ts) 0 in let whole = take-short k ts in absurd (omega (arith, full, open_few, whole))
+no_limit cause.TooDeep ts k short few h = let full = h.full in let open_few = few_open (take k ts) 0 in let whole = take-short k ts in
+    absurd (omega (arith, full, open_few, whole))
 no_limit cause.TooLarge ts k short few h = let e = h.counted in let x = h.exists in absurd (omega (arith, e, x))
 no_limit cause.LongTuple ts k short few h =
     elim h [

@@ -54,7 +54,8 @@ keyword_ends k.Union = refl
 keyword_ends k.When = refl
 keyword_ends k.Without = refl
 
-word_ends : (words : List (List ℕ)) (word : List ℕ) (o : Option Keyword) → keyword_at word ≡ o → ends_operand (word_lexeme words word o) ≡ (not (is_keyword word) || is_literal_word word)
+word_ends : (words : List (List ℕ)) (word : List ℕ) (o : Option Keyword) → keyword_at word ≡ o → ends_operand (word_lexeme words word o)
+    ≡ (not (is_keyword word) || is_literal_word word)
 word_ends words word (Some k) e =
     let is : is_keyword word ≡ true = sym (lexemes_agree.is_keyword word) ∙ ap is_some e in
     keyword_ends k ∙ ap is_literal_word (lexemes_agree.keyword_back word k e) ∙ ap (λ (b : Bool). not b || is_literal_word word) (sym is)
@@ -117,8 +118,10 @@ no_mark symbol m none = by (bytes_eq symbol (mark_text m)) refl
         let both : None ≡ Some m = sym none ∙ found in
         absurd (cc)
 
-symbol_ends : (symbol : List ℕ) (o : Option Mark) → mark_at symbol ≡ o → ends_operand (symbol_lexeme o) ≡ (bytes_eq symbol (codes ")") || bytes_eq symbol (codes "}"))
-symbol_ends symbol (Some m) e = mark_ends m ∙ ap (λ (s : List ℕ). bytes_eq s (codes ")") || bytes_eq s (codes "}")) (lexemes_agree.mark_back symbol m e)
+symbol_ends : (symbol : List ℕ) (o : Option Mark) → mark_at symbol ≡ o →
+    ends_operand (symbol_lexeme o) ≡ (bytes_eq symbol (codes ")") || bytes_eq symbol (codes "}"))
+symbol_ends symbol (Some m) e = mark_ends m ∙ ap (λ (s : List ℕ). bytes_eq s (codes ")") || bytes_eq s (codes "}"))
+    (lexemes_agree.mark_back symbol m e)
 symbol_ends symbol None e =
     let round : bytes_eq symbol (codes ")") ≡ false = no_mark symbol m.CloseRound e in
     let curly : bytes_eq symbol (codes "}") ≡ false = no_mark symbol m.CloseCurly e in
@@ -128,14 +131,16 @@ symbol_minus : (symbol : List ℕ) (o : Option Mark) → mark_at symbol ≡ o �
 symbol_minus symbol (Some m) e = mark_minus m ∙ ap (λ (s : List ℕ). bytes_eq s (codes "-")) (lexemes_agree.mark_back symbol m e)
 symbol_minus symbol None e = sym (no_mark symbol m.Minus e)
 
-ends_by : (words : List (List ℕ)) (bytes : List ℕ) (t : Token) (kind : TokenKind) → ends_operand (lexeme_by words bytes t kind) ≡ text.ends_operand kind (spelling bytes t)
+ends_by : (words : List (List ℕ)) (bytes : List ℕ) (t : Token) (kind : TokenKind) → ends_operand (lexeme_by words bytes t kind)
+    ≡ text.ends_operand kind (spelling bytes t)
 ends_by words bytes t Word = word_ends words (spelling bytes t) (keyword_at (spelling bytes t)) refl
 ends_by words bytes t Variable = refl
 ends_by words bytes t Number = refl
 ends_by words bytes t Text = refl
 ends_by words bytes t Symbol = symbol_ends (spelling bytes t) (mark_at (spelling bytes t)) refl
 
-minus_by : (words : List (List ℕ)) (bytes : List ℕ) (t : Token) (kind : TokenKind) → is_minus (lexeme_by words bytes t kind) ≡ text.is_minus kind (spelling bytes t)
+minus_by : (words : List (List ℕ)) (bytes : List ℕ) (t : Token) (kind : TokenKind) → is_minus (lexeme_by words bytes t kind) ≡ text.is_minus kind
+    (spelling bytes t)
 minus_by words bytes t Word = word_minus words (spelling bytes t) (keyword_at (spelling bytes t))
 minus_by words bytes t Variable = refl
 minus_by words bytes t Number = refl
@@ -171,12 +176,14 @@ sign_same Open kind word = and_true (text.is_minus kind word)
 sign_same Operand kind word = and_false (text.is_minus kind word)
 sign_same Sign kind word = and_true (text.is_minus kind word)
 
-same_signs : (words : List (List ℕ)) (bytes : List ℕ) (before : Before) (ts : List Token) → signs (behind before) (lexemes_of words bytes ts) ≡ signs_from before bytes ts
+same_signs : (words : List (List ℕ)) (bytes : List ℕ) (before : Before) (ts : List Token) → signs (behind before) (lexemes_of words bytes ts)
+    ≡ signs_from before bytes ts
 same_signs words bytes before [] = refl
 same_signs words bytes before (t ∷ ts) =
     let word = spelling bytes t in
     let here = ap (λ (b : Bool). b && not (behind before)) (minus_by words bytes t t.kind) ∙ sign_same before t.kind word in
-    let flag : ends_operand (lexeme_of words bytes t) ≡ behind (stands_after before t.kind word) = ends_by words bytes t t.kind ∙ sym (behind_after before t.kind word) in
+    let flag : ends_operand (lexeme_of words bytes t) ≡ behind (stands_after before t.kind word) = ends_by words bytes t t.kind ∙ sym
+    (behind_after before t.kind word) in
     let rest = ap (λ (b : Bool). signs b (lexemes_of words bytes ts)) flag ∙ same_signs words bytes (stands_after before t.kind word) ts in
     λ i. here i ∷ rest i
 
@@ -218,7 +225,8 @@ symbol_number : (o : Option Mark) (n : ℕ) → symbol_lexeme o ≡ l.Number n �
 symbol_number (Some m) n e = cc
 symbol_number None n e = cc
 
-number_by : (words : List (List ℕ)) (bytes : List ℕ) (t : Token) (kind : TokenKind) (n : ℕ) → lexeme_by words bytes t kind ≡ l.Number n → (kind ≡ Number) × (number_of bytes t ≡ n)
+number_by : (words : List (List ℕ)) (bytes : List ℕ) (t : Token) (kind : TokenKind) (n : ℕ) → lexeme_by words bytes t kind ≡ l.Number n →
+    (kind ≡ Number) × (number_of bytes t ≡ n)
 number_by words bytes t Word n e = absurd (word_number words (spelling bytes t) (keyword_at (spelling bytes t)) n e)
 number_by words bytes t Variable n e = absurd (cc)
 number_by words bytes t Number n e = (refl, cc)
@@ -255,9 +263,14 @@ greatest words bytes ts fault h front back e p program = by (numbers words bytes
         let fs = x.1.0 in
         let gs = signs true back in
         let all : signs false (lexemes_of words bytes ts) ≡ fs ++ true ∷ false ∷ gs =
-        ap (signs false) e ∙ signs-append front (l.Number (2 ^ 63) ∷ back) false ∙ ap (λ (bs : List Bool). bs ++ false ∷ gs) x.1.1 ∙ append_assoc fs (true ∷ []) (false ∷ gs) in
-        let long = ap (length {A = Bool}) x.1.1 in
-        (fs, gs, sym (signs_are_of_literals.programs (lexemes_of words bytes ts) p program) ∙ all, omega (arith, long, length-signs false front, length-append {A = Bool} fs (true ∷ [])))
+        ap (signs false) e ∙ signs-append front (l.Number (2 ^ 63) ∷ back) false ∙ ap (λ (bs : List Bool). bs ++ false ∷ gs) x.1.1
+        ∙ append_assoc fs (true ∷ []) (false ∷ gs) in
+        let long = ap (length {A = Bool}) x.1.1 in (
+          fs,
+          gs,
+          sym (signs_are_of_literals.programs (lexemes_of words bytes ts) p program) ∙ all,
+          omega (arith, long, length-signs false front, length-append {A = Bool} fs (true ∷ [])),
+        )
 
 pub signs_are_one : SignsAreOne
 signs_are_one = record {

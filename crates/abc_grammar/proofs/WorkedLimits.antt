@@ -85,7 +85,8 @@ extra_token n t same =
     let front : take (length (nots n)) (nots n ++ t ∷ []) ≡ nots n = take-append_seam (nots n) (t ∷ []) in
     record {
       counted = subst (λ (us : List Lexeme). At (nots n ++ t ∷ []) (length (nots n)) (counts (fold spot_behind Free us))) (sym front)
-          (subst (λ (spot : Spot). At (nots n ++ t ∷ []) (length (nots n)) (counts spot)) (sym (free_behind n)) (at_behind (nots n) [] t (counts Free) refl));
+          (subst (λ (spot : Spot). At (nots n ++ t ∷ []) (length (nots n)) (counts spot)) (sym (free_behind n))
+          (at_behind (nots n) [] t (counts Free) refl));
       full = let size = ap (size_from Free) front ∙ size-nots n in omega (arith, size, same);
     }
 

@@ -196,7 +196,8 @@ double_definition_is = record {
   lexemes = double_definition_lexemes;
   scanned = record { read = double_definition_reads; meant = refl };
   grammar = g.headed_1 {ts = nil_definition ++ nil_definition} {us = []}
-      (listed.more {ts = nil_definition} {us = nil_definition} {items = (record { 0 = 0 }, term.Nil) ∷ []} (listed.more {ts = []} {us = nil_definition} {items = []} listed.none nil_defined) nil_defined)
+      (listed.more {ts = nil_definition} {us = nil_definition} {items = (record { 0 = 0 }, term.Nil) ∷ []}
+      (listed.more {ts = []} {us = nil_definition} {items = []} listed.none nil_defined) nil_defined)
       listed.none;
   within = short_within double_definition_lexemes 13 (omega arith) (omega arith);
   names = refl;
@@ -260,7 +261,10 @@ double_component_reads = (
                                   record { token = refl; place = refl },
                                   (
                                     record { token = refl; place = refl },
-                                    (record { token = refl; place = refl }, (record { token = refl; place = refl }, (record { token = refl; place = refl }, refl))),
+                                    (
+                                      record { token = refl; place = refl },
+                                      (record { token = refl; place = refl }, (record { token = refl; place = refl }, refl)),
+                                    ),
                                   ),
                                 ),
                               ),
@@ -282,7 +286,8 @@ double_component_reads = (
 
 abbrev idle_comp : List Lexeme
 idle_comp =
-    l.Keyword k.Comp ∷ l.Name (record { 0 = 0 }) ∷ l.Mark m.OpenCurly ∷ l.Keyword k.Show ∷ l.Mark m.Semicolon ∷ l.Keyword k.Run ∷ l.Number 0 ∷ l.Mark m.Semicolon ∷ l.Mark m.CloseCurly ∷ []
+    l.Keyword k.Comp ∷ l.Name (record { 0 = 0 }) ∷ l.Mark m.OpenCurly ∷ l.Keyword k.Show ∷ l.Mark m.Semicolon ∷ l.Keyword k.Run ∷ l.Number
+    0 ∷ l.Mark m.Semicolon ∷ l.Mark m.CloseCurly ∷ []
 
 idle_composed : g.IsComponent idle_comp (plain_component idle_component)
 idle_composed = g.component {c = record { 0 = 0 }} {ts = []} {us = []} {vs = l.Number 0 ∷ []} listed.none listed.none (q.choice (q.prefix q.nil))
@@ -296,7 +301,8 @@ double_component_is = record {
   lexemes = double_component_lexemes;
   scanned = record { read = double_component_reads; meant = refl };
   grammar = g.headed_1 {ts = []} {us = idle_comp ++ idle_comp} listed.none
-      (listed.more {ts = idle_comp} {us = idle_comp} {items = plain_component idle_component ∷ []} (listed.more {ts = []} {us = idle_comp} {items = []} listed.none idle_composed) idle_composed);
+      (listed.more {ts = idle_comp} {us = idle_comp} {items = plain_component idle_component ∷ []}
+      (listed.more {ts = []} {us = idle_comp} {items = []} listed.none idle_composed) idle_composed);
   within = short_within double_component_lexemes 21 (omega arith) (omega arith);
   names = refl;
 }

@@ -41,5 +41,6 @@ pub record PartLimits : Type 0 where
   pub eight_variables :
       (i : ℕ) →
       ¬ BeginsExtraVariable IsSomeProgram
-      (run_a ++ l.Mark m.Question ∷ l.Mark m.OpenRound ∷ l.Keyword k.Tt ∷ l.Mark m.CloseRound ∷ l.Mark m.OpenRound ∷ variables 7 ++ l.Mark m.CloseRound ∷ []) i
+      (run_a ++ l.Mark m.Question ∷ l.Mark m.OpenRound ∷ l.Keyword k.Tt ∷ l.Mark m.CloseRound ∷ l.Mark m.OpenRound ∷ variables 7 ++ l.Mark
+      m.CloseRound ∷ []) i
   pub scalars : (i : ℕ) → ¬ BeginsExtraScalar (l.Mark m.OpenCurly ∷ ones 255 ++ l.Mark m.CloseCurly ∷ []) i

@@ -34,7 +34,8 @@ two_definitions =
 -- `comp a { a = 1; b = 2; show a, b; run ? (tt) ($a, $b) . 0; }`
 abbrev pub first_component : List Lexeme
 first_component =
-    l.Keyword k.Comp ∷ a ∷ l.Mark m.OpenCurly ∷ a ∷ l.Mark m.Equal ∷ l.Number 1 ∷ l.Mark m.Semicolon ∷ b ∷ l.Mark m.Equal ∷ l.Number 2 ∷ l.Mark m.Semicolon
+    l.Keyword k.Comp ∷ a ∷ l.Mark m.OpenCurly ∷ a ∷ l.Mark m.Equal ∷ l.Number 1 ∷ l.Mark m.Semicolon ∷ b ∷ l.Mark m.Equal ∷ l.Number 2 ∷ l.Mark
+    m.Semicolon
     ∷ l.Keyword k.Show ∷ a ∷ l.Mark m.Comma ∷ b ∷ l.Mark m.Semicolon ∷ l.Keyword k.Run ∷ l.Mark m.Question ∷ l.Mark m.OpenRound ∷ l.Keyword k.Tt
     ∷ l.Mark m.CloseRound ∷ l.Mark m.OpenRound ∷ l.Variable (name 0) ∷ l.Mark m.Comma ∷ l.Variable (name 1) ∷ l.Mark m.CloseRound ∷ l.Mark m.Dot
     ∷ l.Number 0 ∷ l.Mark m.Semicolon ∷ l.Mark m.CloseCurly ∷ []
@@ -44,7 +45,8 @@ abbrev pub second_component : List Lexeme
 second_component =
     l.Keyword k.Comp ∷ b ∷ l.Mark m.OpenCurly ∷ l.Keyword k.Show ∷ l.Mark m.Semicolon ∷ l.Keyword k.Run ∷ l.Mark m.OpenRound ∷ a ∷ l.Mark m.Comma ∷ b
     ∷ l.Mark m.CloseRound ∷ l.Mark m.At ∷ l.Mark m.OpenRound ∷ l.Keyword k.Tt ∷ l.Mark m.CloseRound ∷ l.Mark m.Dot
-    ∷ l.Mark m.OpenSquare ∷ a ∷ l.Mark m.Becomes ∷ l.Number 1 ∷ l.Mark m.CloseSquare ∷ l.Mark m.OpenSquare ∷ b ∷ l.Mark m.Becomes ∷ l.Number 2 ∷ l.Mark m.CloseSquare
+    ∷ l.Mark m.OpenSquare ∷ a ∷ l.Mark m.Becomes ∷ l.Number 1 ∷ l.Mark m.CloseSquare ∷ l.Mark m.OpenSquare ∷ b ∷ l.Mark m.Becomes ∷ l.Number
+    2 ∷ l.Mark m.CloseSquare
     ∷ l.Number 0 ∷ l.Mark m.Semicolon ∷ l.Mark m.CloseCurly ∷ []
 
 abbrev pub hearer : PlainComponent

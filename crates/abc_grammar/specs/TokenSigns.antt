@@ -22,7 +22,8 @@ EndsWithMinus ts all = (fs gs : List Bool) × (all ≡ fs ++ true ∷ false ∷ 
 
 pub record SignsAreOne : Type 0 where
   -- an operand may end with a token exactly where it may end with its lexeme, and both are a `-` together
-  pub ends : (words : List (List ℕ)) (bytes : List ℕ) (t : Token) → ends_operand (lexeme_of words bytes t) ≡ text.ends_operand t.kind (spelling bytes t)
+  pub ends : (words : List (List ℕ)) (bytes : List ℕ) (t : Token) → ends_operand (lexeme_of words bytes t) ≡ text.ends_operand t.kind
+      (spelling bytes t)
   pub minus : (words : List (List ℕ)) (bytes : List ℕ) (t : Token) → is_minus (lexeme_of words bytes t) ≡ text.is_minus t.kind (spelling bytes t)
   -- so the same tokens are signs
   pub signs : (words : List (List ℕ)) (bytes : List ℕ) (ts : List Token) → signs false (lexemes_of words bytes ts) ≡ token_signs bytes ts

@@ -29,7 +29,8 @@ use Rattle.abc_grammar_laws.specs.Marks.{FollowsAt, EndsTuple}
 -- before a `.`: `this`, the predicate of an output, or the variables of an input
 pub data Dotted (before : List Lexeme) : Type 0 where
   own : (front : List Lexeme) → before ≡ front ++ l.Keyword k.This ∷ [] → Dotted before
-  output : (front us : List Lexeme) (x : Pred) → before ≡ front ++ l.Mark m.At ∷ l.Mark m.OpenRound ∷ us ++ l.Mark m.CloseRound ∷ [] → IsPred us x → Dotted before
+  output : (front us : List Lexeme) (x : Pred) → before ≡ front ++ l.Mark m.At ∷ l.Mark m.OpenRound ∷ us ++ l.Mark m.CloseRound ∷ [] →
+      IsPred us x → Dotted before
   input :
       (front us ws : List Lexeme) (x : Pred) (xs : List Name) →
       before ≡ front ++ l.Mark m.Question ∷ l.Mark m.OpenRound ∷ us ++ l.Mark m.CloseRound ∷ l.Mark m.OpenRound ∷ ws ++ l.Mark m.CloseRound ∷ [] →
@@ -79,9 +80,11 @@ closed : (ts : List Lexeme) (t : Lexeme) → ((before after : List Lexeme) → S
 closed ts t is h = joined ts [] t is h nothing
 
 -- a word, and brackets
-called : (t : Lexeme) (ts : List Lexeme) → ((before after : List Lexeme) → Stands t before after) → Fine ts → Fine (t ∷ l.Mark m.OpenRound ∷ ts ++ l.Mark m.CloseRound ∷ [])
+called : (t : Lexeme) (ts : List Lexeme) → ((before after : List Lexeme) → Stands t before after) → Fine ts →
+    Fine (t ∷ l.Mark m.OpenRound ∷ ts ++ l.Mark m.CloseRound ∷ [])
 called t ts is h =
-    flat t (l.Mark m.OpenRound ∷ ts ++ l.Mark m.CloseRound ∷ []) is (flat (l.Mark m.OpenRound) (ts ++ l.Mark m.CloseRound ∷ []) (λ b r. tt) (closed ts (l.Mark m.CloseRound) (λ b r. tt) h))
+    flat t (l.Mark m.OpenRound ∷ ts ++ l.Mark m.CloseRound ∷ []) is
+    (flat (l.Mark m.OpenRound) (ts ++ l.Mark m.CloseRound ∷ []) (λ b r. tt) (closed ts (l.Mark m.CloseRound) (λ b r. tt) h))
 
 module _ {A : Type 0} {Item : List Lexeme → A → Type 0} (each : (us : List Lexeme) (a : A) → Item us a → Fine us) where
   listed_fine : {ts : List Lexeme} {items : List A} → AreListed Item ts items → Fine ts
@@ -127,15 +130,18 @@ mutual
   atom_fine o.attribute = λ before after. (tt, tt)
   atom_fine o.own = λ before after. (tt, (own before refl, (tt, tt)))
   atom_fine o.variable = λ before after. (tt, tt)
-  atom_fine (o.bracketed {ts} h) = flat (l.Mark m.OpenRound) (ts ++ l.Mark m.CloseRound ∷ []) (λ b r. tt) (closed ts (l.Mark m.CloseRound) (λ b r. tt) (operand_fine h))
+  atom_fine (o.bracketed {ts} h) = flat (l.Mark m.OpenRound) (ts ++ l.Mark m.CloseRound ∷ []) (λ b r. tt)
+      (closed ts (l.Mark m.CloseRound) (λ b r. tt) (operand_fine h))
   atom_fine (o.size {ts} h) = called (l.Keyword k.Size) ts (λ b r. tt) (operand_fine h)
   atom_fine (o.free {ts} h) = called (l.Keyword k.Free) ts (λ b r. tt) (operand_fine h)
 
 expr_fine : {ts : List Lexeme} {a : Expr} → IsExpr ts a → Fine ts
 expr_fine (e.operand h) = operand_fine h
 expr_fine (e.set {ts} h) = called (l.Keyword k.Set) ts (λ b r. tt) (optional_fine (λ us a i. operand_fine i) h)
-expr_fine (e.union {ts} {us} h i) = called (l.Keyword k.Union) (ts ++ l.Mark m.Comma ∷ us) (λ b r. tt) (joined ts us (l.Mark m.Comma) (λ b r. tt) (expr_fine h) (expr_fine i))
-expr_fine (e.without {ts} {us} h i) = called (l.Keyword k.Without) (ts ++ l.Mark m.Comma ∷ us) (λ b r. tt) (joined ts us (l.Mark m.Comma) (λ b r. tt) (expr_fine h) (expr_fine i))
+expr_fine (e.union {ts} {us} h i) = called (l.Keyword k.Union) (ts ++ l.Mark m.Comma ∷ us) (λ b r. tt)
+    (joined ts us (l.Mark m.Comma) (λ b r. tt) (expr_fine h) (expr_fine i))
+expr_fine (e.without {ts} {us} h i) = called (l.Keyword k.Without) (ts ++ l.Mark m.Comma ∷ us) (λ b r. tt)
+    (joined ts us (l.Mark m.Comma) (λ b r. tt) (expr_fine h) (expr_fine i))
 
 mutual
   pred_fine : {ts : List Lexeme} {a : Pred} → IsPred ts a → Fine ts
@@ -150,7 +156,8 @@ mutual
   test_fine p.always = λ before after. (tt, tt)
   test_fine p.never = λ before after. (tt, tt)
   test_fine (p.not {ts} h) = flat (l.Keyword k.Not) ts (λ b r. tt) (test_fine h)
-  test_fine (p.bracketed {ts} h) = flat (l.Mark m.OpenSquare) (ts ++ l.Mark m.CloseSquare ∷ []) (λ b r. tt) (closed ts (l.Mark m.CloseSquare) (λ b r. tt) (pred_fine h))
+  test_fine (p.bracketed {ts} h) = flat (l.Mark m.OpenSquare) (ts ++ l.Mark m.CloseSquare ∷ []) (λ b r. tt)
+      (closed ts (l.Mark m.CloseSquare) (λ b r. tt) (pred_fine h))
   test_fine (p.same {ts} {us} h i) = joined ts us (l.Mark m.Equal) (λ b r. tt) (operand_fine h) (operand_fine i)
   test_fine (p.below {ts} {us} h i) = joined ts us (l.Mark m.Below) (λ b r. tt) (operand_fine h) (operand_fine i)
   test_fine (p.member {ts} {us} h i) = joined ts us (l.Keyword k.In) (λ b r. tt) (operand_fine h) (operand_fine i)
@@ -160,7 +167,8 @@ update_fine : (ts : List Lexeme) (u : Update) → IsUpdate ts u → Fine ts
 update_fine _ _ (q.update {a = a} {ts = ts} h) =
     let back : List Lexeme = ts ++ l.Mark m.CloseSquare ∷ [] in
     flat (l.Mark m.OpenSquare) (l.Name a ∷ l.Mark m.Becomes ∷ back) (λ b r. tt)
-    (flat (l.Name a) (l.Mark m.Becomes ∷ back) (λ b r. tt) (flat (l.Mark m.Becomes) back (λ b r. tt) (closed ts (l.Mark m.CloseSquare) (λ b r. tt) (expr_fine h))))
+    (flat (l.Name a) (l.Mark m.Becomes ∷ back) (λ b r. tt)
+    (flat (l.Mark m.Becomes) back (λ b r. tt) (closed ts (l.Mark m.CloseSquare) (λ b r. tt) (expr_fine h))))
 
 variable_fine : (ts : List Lexeme) (a : Name) → IsVariable ts a → Fine ts
 variable_fine _ _ listed.variable before after = (tt, tt)
@@ -170,7 +178,8 @@ name_fine _ _ listed.name before after = (tt, tt)
 
 -- an output's tokens, from those of its parts
 output_fine :
-    (ts us vs : List Lexeme) (es : List Expr) (x : Pred) (updates : List Update) (A : Process) → MayBeListed IsExpr ts es → IsPred us x → IsAfter vs updates A → Fine vs →
+    (ts us vs : List Lexeme) (es : List Expr) (x : Pred) (updates : List Update) (A : Process) → MayBeListed IsExpr ts es → IsPred us x →
+    IsAfter vs updates A → Fine vs →
     Fine (l.Mark m.OpenRound ∷ ts ++ l.Mark m.CloseRound ∷ l.Mark m.At ∷ l.Mark m.OpenRound ∷ us ++ l.Mark m.CloseRound ∷ l.Mark m.Dot ∷ vs)
 output_fine ts us vs es x updates A h i j rest before after =
     let head : List Lexeme = l.Mark m.OpenRound ∷ ts in
@@ -178,14 +187,31 @@ output_fine ts us vs es x updates A h i j rest before after =
     let back : List Lexeme = l.Mark m.CloseRound ∷ l.Mark m.Dot ∷ vs in
     let tuple : Fine head = flat (l.Mark m.OpenRound) ts (λ b r. tt) (optional_fine (λ ws a y. expr_fine y) h) in
     let pred : Fine (l.Mark m.OpenRound ∷ us) = flat (l.Mark m.OpenRound) us (λ b r. tt) (pred_fine i) in
-    let ends : EndsTuple (before ++ head ++ l.Mark m.CloseRound ∷ []) = record { front = before; parts = ts; exprs = es; stands = refl; listed = h } in
+    let ends : EndsTuple (before ++ head ++ l.Mark m.CloseRound ∷ []) =
+    record { front = before; parts = ts; exprs = es; stands = refl; listed = h } in
     let follows : FollowsAt (l.Mark m.OpenRound ∷ us ++ (back ++ after)) =
-    record { us = us; vs = vs; rest = after; p = x; updates = updates; next = A; stands = sym (append_assoc (l.Mark m.OpenRound ∷ us) back after); pred = i; behind = j } in
-    let shift : before ++ (head ++ middle) ++ l.Mark m.CloseRound ∷ [] ≡ (before ++ head ++ l.Mark m.CloseRound ∷ []) ++ l.Mark m.At ∷ l.Mark m.OpenRound ∷ us ++ l.Mark m.CloseRound ∷ [] = simp append_assoc in
+    record {
+      us = us;
+      vs = vs;
+      rest = after;
+      p = x;
+      updates = updates;
+      next = A;
+      stands = sym (append_assoc (l.Mark m.OpenRound ∷ us) back after);
+      pred = i;
+      behind = j;
+    } in
+    let shift : before ++ (head ++ middle) ++ l.Mark m.CloseRound ∷ [] ≡ (before ++ head ++ l.Mark m.CloseRound ∷ []) ++ l.Mark m.At ∷ l.Mark
+    m.OpenRound ∷ us ++ l.Mark m.CloseRound ∷ [] = simp append_assoc in
     each-append (head ++ middle) back before after
     (each-append head middle before (back ++ after) (tuple before (middle ++ (back ++ after)))
-    (tt, ((ends, follows), pred (before ++ head ++ l.Mark m.CloseRound ∷ [] ++ l.Mark m.At ∷ []) (back ++ after))))
-    (tt, (output (before ++ head ++ l.Mark m.CloseRound ∷ []) us x shift i, rest (before ++ (head ++ middle) ++ l.Mark m.CloseRound ∷ [] ++ l.Mark m.Dot ∷ []) after))
+    (tt, ((ends, follows), pred (before ++ head ++ l.Mark m.CloseRound ∷ [] ++ l.Mark m.At ∷ []) (back ++ after)))) (
+      tt,
+      (
+        output (before ++ head ++ l.Mark m.CloseRound ∷ []) us x shift i,
+        rest (before ++ (head ++ middle) ++ l.Mark m.CloseRound ∷ [] ++ l.Mark m.Dot ∷ []) after,
+      ),
+    )
 
 input_fine :
     (ts us vs : List Lexeme) (x : Pred) (xs : List Name) → IsPred ts x → MayBeListed IsVariable us xs → Fine vs →
@@ -195,7 +221,8 @@ input_fine ts us vs x xs h i rest before after =
     let middle : List Lexeme = l.Mark m.CloseRound ∷ l.Mark m.OpenRound ∷ us in
     let back : List Lexeme = l.Mark m.CloseRound ∷ l.Mark m.Dot ∷ vs in
     let pred : Fine head = flat (l.Mark m.Question) (l.Mark m.OpenRound ∷ ts) (λ b r. tt) (flat (l.Mark m.OpenRound) ts (λ b r. tt) (pred_fine h)) in
-    let variables : Fine middle = flat (l.Mark m.CloseRound) (l.Mark m.OpenRound ∷ us) (λ b r. tt) (flat (l.Mark m.OpenRound) us (λ b r. tt) (optional_fine variable_fine i)) in
+    let variables : Fine middle = flat (l.Mark m.CloseRound) (l.Mark m.OpenRound ∷ us) (λ b r. tt)
+    (flat (l.Mark m.OpenRound) us (λ b r. tt) (optional_fine variable_fine i)) in
     let shift : before ++ (head ++ middle) ++ l.Mark m.CloseRound ∷ [] ≡ before ++ head ++ middle ++ l.Mark m.CloseRound ∷ [] =
     ap (λ (ws : List Lexeme). ws ++ l.Mark m.CloseRound ∷ []) (sym (append_assoc before head middle)) in
     each-append (head ++ middle) back before after (both head middle pred variables before (back ++ after))
@@ -219,7 +246,8 @@ mutual
   )
   prefix_fine (q.when {ts} {us} h i) =
       flat (l.Keyword k.When) (l.Mark m.OpenRound ∷ ts ++ l.Mark m.CloseRound ∷ us) (λ b r. tt)
-      (flat (l.Mark m.OpenRound) (ts ++ l.Mark m.CloseRound ∷ us) (λ b r. tt) (joined ts us (l.Mark m.CloseRound) (λ b r. tt) (pred_fine h) (prefix_fine i)))
+      (flat (l.Mark m.OpenRound) (ts ++ l.Mark m.CloseRound ∷ us) (λ b r. tt)
+      (joined ts us (l.Mark m.CloseRound) (λ b r. tt) (pred_fine h) (prefix_fine i)))
   prefix_fine (q.output {ts} {us} {vs} {es} {p = x} {updates} {A} h i j) = output_fine ts us vs es x updates A h i j (after_fine j)
   prefix_fine (q.input {ts} {us} {vs} {p = x} {xs} h i j) = input_fine ts us vs x xs h i (after_fine j)
 
@@ -231,12 +259,14 @@ definition_fine : (ts : List Lexeme) (d : Name × Process) → IsDefinition ts d
 definition_fine _ _ (g.definition {c = c} {ts = ts} h) =
     let back : List Lexeme = ts ++ l.Mark m.Semicolon ∷ [] in
     flat (l.Keyword k.Def) (l.Name c ∷ l.Mark m.Equal ∷ back) (λ b r. tt)
-    (flat (l.Name c) (l.Mark m.Equal ∷ back) (λ b r. tt) (flat (l.Mark m.Equal) back (λ b r. tt) (closed ts (l.Mark m.Semicolon) (λ b r. tt) (process_fine h))))
+    (flat (l.Name c) (l.Mark m.Equal ∷ back) (λ b r. tt)
+    (flat (l.Mark m.Equal) back (λ b r. tt) (closed ts (l.Mark m.Semicolon) (λ b r. tt) (process_fine h))))
 
 initial_fine : (ts : List Lexeme) (x : Name × Value) → IsInitial ts x → Fine ts
 initial_fine _ _ (g.initial {a = a} {ts = ts} h) =
     let back : List Lexeme = ts ++ l.Mark m.Semicolon ∷ [] in
-    flat (l.Name a) (l.Mark m.Equal ∷ back) (λ b r. tt) (flat (l.Mark m.Equal) back (λ b r. tt) (closed ts (l.Mark m.Semicolon) (λ b r. tt) (literal_fine h)))
+    flat (l.Name a) (l.Mark m.Equal ∷ back) (λ b r. tt)
+    (flat (l.Mark m.Equal) back (λ b r. tt) (closed ts (l.Mark m.Semicolon) (λ b r. tt) (literal_fine h)))
 
 component_fine : (ts : List Lexeme) (C : PlainComponent) → IsComponent ts C → Fine ts
 component_fine _ _ (g.component {c = c} {ts = ts} {us} {vs} {first} h i j) before after =
@@ -248,8 +278,17 @@ component_fine _ _ (g.component {c = c} {ts = ts} {us} {vs} {first} h i j) befor
     let run_fine : Fine run = flat (l.Mark m.Semicolon) (l.Keyword k.Run ∷ vs) (λ b r. tt) (flat (l.Keyword k.Run) vs (λ b r. tt) (process_fine j)) in
     each-append (head ++ shown ++ run) end before after
     (each-append (head ++ shown) run before (end ++ after)
-    (each-append head shown before (run ++ (end ++ after))
-    (tt, (tt, (component ts (us ++ (run ++ (end ++ after))) first refl h, repeated_fine initial_fine h (before ++ l.Keyword k.Comp ∷ [] ++ l.Name c ∷ [] ++ l.Mark m.OpenCurly ∷ []) (shown ++ (run ++ (end ++ after))))))
+    (each-append head shown before (run ++ (end ++ after)) (
+      tt,
+      (
+        tt,
+        (
+          component ts (us ++ (run ++ (end ++ after))) first refl h,
+          repeated_fine initial_fine h (before ++ l.Keyword k.Comp ∷ [] ++ l.Name c ∷ [] ++ l.Mark m.OpenCurly ∷ [])
+              (shown ++ (run ++ (end ++ after))),
+        ),
+      ),
+    )
     (shown_fine (before ++ head) (run ++ (end ++ after))))
     (run_fine (before ++ (head ++ shown)) (end ++ after)))
     (tt, (tt, tt))
@@ -267,6 +306,7 @@ each_at [] ys t before after h = subst (λ (b : List Lexeme). Stands t b (ys ++ 
 each_at (x ∷ xs) ys t before after h =
     subst (λ (b : List Lexeme). Stands t b (ys ++ after)) (append_assoc before (x ∷ []) xs) (each_at xs ys t (before ++ x ∷ []) after h.1)
 
-pub token_at : {ts : List Lexeme} {x : PlainProgram} → IsProgram ts x → (before after : List Lexeme) (t : Lexeme) → ts ≡ before ++ t ∷ after → Stands t before after
+pub token_at : {ts : List Lexeme} {x : PlainProgram} → IsProgram ts x → (before after : List Lexeme) (t : Lexeme) → ts ≡ before ++ t ∷ after →
+    Stands t before after
 token_at h before after t is =
     subst (Stands t before) (append-nil after) (each_at before after t [] [] (subst (λ (us : List Lexeme). Each us [] []) is (program_fine h [] [])))

@@ -67,13 +67,15 @@ module _ (n : ℕ) where
 
     repeated_below : {ts : List Lexeme} {items : List A} → AreRepeated Item ts items → Tokens ts → All B items
     repeated_below listed.none k = λ i d lt. absurd (omega (arith, lt))
-    repeated_below (listed.more {ts} {us} {items} {a} h i) k = All-append B items (a ∷ []) (repeated_below h (front ts us k)) (only B a (each us a i (back ts us k)))
+    repeated_below (listed.more {ts} {us} {items} {a} h i) k = All-append B items (a ∷ []) (repeated_below h (front ts us k))
+        (only B a (each us a i (back ts us k)))
 
   mutual
     operand_below : {ts : List Lexeme} {a : Operand} → IsOperand ts a → Tokens ts → OperandBelow n a
     operand_below (o.product h) k = product_below h k
     operand_below (o.plus {ts} {us} h i) k = (operand_below h (front ts (l.Mark m.Plus ∷ us) k), product_below i (back ts (l.Mark m.Plus ∷ us) k).1)
-    operand_below (o.minus {ts} {us} h i) k = (operand_below h (front ts (l.Mark m.Minus ∷ us) k), product_below i (back ts (l.Mark m.Minus ∷ us) k).1)
+    operand_below (o.minus {ts} {us} h i) k =
+        (operand_below h (front ts (l.Mark m.Minus ∷ us) k), product_below i (back ts (l.Mark m.Minus ∷ us) k).1)
 
     product_below : {ts : List Lexeme} {a : Operand} → IsProduct ts a → Tokens ts → OperandBelow n a
     product_below (o.atom h) k = atom_below h k
@@ -113,8 +115,10 @@ module _ (n : ℕ) where
     test_below (p.not h) k' = test_below h k'.1
     test_below (p.bracketed {ts} h) k' = pred_below h (front ts (l.Mark m.CloseSquare ∷ []) k'.1)
     test_below (p.same {ts} {us} h i) k' = (operand_below h (front ts (l.Mark m.Equal ∷ us) k'), operand_below i (back ts (l.Mark m.Equal ∷ us) k').1)
-    test_below (p.below {ts} {us} h i) k' = (operand_below h (front ts (l.Mark m.Below ∷ us) k'), operand_below i (back ts (l.Mark m.Below ∷ us) k').1)
-    test_below (p.member {ts} {us} h i) k' = (operand_below h (front ts (l.Keyword k.In ∷ us) k'), operand_below i (back ts (l.Keyword k.In ∷ us) k').1)
+    test_below (p.below {ts} {us} h i) k' =
+        (operand_below h (front ts (l.Mark m.Below ∷ us) k'), operand_below i (back ts (l.Mark m.Below ∷ us) k').1)
+    test_below (p.member {ts} {us} h i) k' =
+        (operand_below h (front ts (l.Keyword k.In ∷ us) k'), operand_below i (back ts (l.Keyword k.In ∷ us) k').1)
 
   update_below : (ts : List Lexeme) (u : Update) → IsUpdate ts u → Tokens ts → UpdateBelow n u
   update_below _ _ (q.update {ts = ts} h) k = (k.1.0, expr_below h (front ts (l.Mark m.CloseSquare ∷ []) k.1.1.1))
@@ -138,7 +142,8 @@ module _ (n : ℕ) where
     prefix_below q.nil k = tt
     prefix_below q.call k = k.0
     prefix_below (q.braced {ts} h) k = process_below h (front ts (l.Mark m.CloseCurly ∷ []) k.1)
-    prefix_below (q.when {ts} {us} h i) k = (pred_below h (front ts (l.Mark m.CloseRound ∷ us) k.1.1), prefix_below i (back ts (l.Mark m.CloseRound ∷ us) k.1.1).1)
+    prefix_below (q.when {ts} {us} h i) k =
+        (pred_below h (front ts (l.Mark m.CloseRound ∷ us) k.1.1), prefix_below i (back ts (l.Mark m.CloseRound ∷ us) k.1.1).1)
     prefix_below (q.output {ts} {us} {vs} h i j) k =
         let head = front (ts ++ l.Mark m.CloseRound ∷ l.Mark m.At ∷ l.Mark m.OpenRound ∷ us) (l.Mark m.CloseRound ∷ l.Mark m.Dot ∷ vs) k.1 in
         let tail = back (ts ++ l.Mark m.CloseRound ∷ l.Mark m.At ∷ l.Mark m.OpenRound ∷ us) (l.Mark m.CloseRound ∷ l.Mark m.Dot ∷ vs) k.1 in
@@ -193,7 +198,8 @@ name_numbered : (words : List (List ℕ)) (named : Option (List ℕ)) → HasNam
 name_numbered words None h = tt
 name_numbered words (Some word) h = number_below words word h
 
-tokens_numbered : (words : List (List ℕ)) (bytes : List ℕ) (ts : List Token) → All (λ t. HasName words (named bytes t)) ts → Tokens (length words) (lexemes_of words bytes ts)
+tokens_numbered : (words : List (List ℕ)) (bytes : List ℕ) (ts : List Token) → All (λ t. HasName words (named bytes t)) ts →
+    Tokens (length words) (lexemes_of words bytes ts)
 tokens_numbered words bytes [] h = tt
 tokens_numbered words bytes (t ∷ ts) h = (
   subst (NameBelow (length words)) (sym (lexemes_agree.names words bytes t)) (name_numbered words (named bytes t) (h 0 t (omega arith))),

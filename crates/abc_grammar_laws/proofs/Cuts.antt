@@ -22,7 +22,8 @@ pub record Cut {A : Type 0} (Item : List Lexeme → A → Type 0) (n : ℕ) (ts 
   pub some : ((us : List Lexeme) (a : A) → Item us a → 0 < length us) → 0 < length back
 
 pub cut :
-    {A : Type 0} {Item : List Lexeme → A → Type 0} {ts : List Lexeme} {items : List A} (n : ℕ) → 0 < n → AreListed Item ts items → n < length items → Cut Item n ts
+    {A : Type 0} {Item : List Lexeme → A → Type 0} {ts : List Lexeme} {items : List A} (n : ℕ) → 0 < n → AreListed Item ts items →
+    n < length items → Cut Item n ts
 cut n above (listed.one h) lt = absurd (omega (arith, above, lt))
 cut {A} {Item} n above (listed.more {ts} {us} {items} {a} first i) lt = by (cut n above first) (cases_lt n (length items))
   where
@@ -41,7 +42,16 @@ cut {A} {Item} n above (listed.more {ts} {us} {items} {a} first i) lt = by (cut 
           many = c.many;
           some = λ each. let t = c.some each in omega (arith, t, length-append c.back (l.Mark m.Comma ∷ us));
         }
-    by more (inr le) = record { front = ts; back = us; items = items; whole = refl; are = first; many = omega (arith, le, lt, long); some = λ each. each us a i }
+    by more (inr le) = record {
+      front = ts;
+      back = us;
+      items = items;
+      whole = refl;
+      are = first;
+      many = omega (arith, le, lt, long);
+      some =
+          λ each. each us a i;
+    }
 
 -- the first item of a list: it is alone, or a comma follows it
 pub data First {A : Type 0} (Item : List Lexeme → A → Type 0) (ts : List Lexeme) : Type 0 where

@@ -36,7 +36,8 @@ tuples :
     (front parts : List Lexeme) (exprs : List Expr) → AreListed IsExpr parts exprs →
     (h : EndsTuple (front ++ l.Mark m.OpenRound ∷ parts ++ l.Mark m.CloseRound ∷ [])) → (h.front ≡ front) × (h.parts ≡ parts)
 tuples front parts exprs are h =
-    let inner = last_both (front ++ l.Mark m.OpenRound ∷ parts) (h.front ++ l.Mark m.OpenRound ∷ h.parts) (l.Mark m.CloseRound) (l.Mark m.CloseRound) h.stands in
+    let inner = last_both (front ++ l.Mark m.OpenRound ∷ parts) (h.front ++ l.Mark m.OpenRound ∷ h.parts) (l.Mark m.CloseRound)
+    (l.Mark m.CloseRound) h.stands in
     let same = same_bracket h.front front h.parts parts (l.Mark m.OpenRound) (l.Mark m.OpenRound) (λ n. refl) (λ n. refl)
     (optional_balance (λ us a i. expr_balance i) h.listed) (exprs_balance are) (sym inner.0) in
     (same.0, same.2)
@@ -62,20 +63,25 @@ no_pred ts xs h a i = by (first_of h)
     by (with_more item rest x v e) = first_no item rest x v a (subst (λ (us : List Lexeme). IsPred us a) e i)
 
 variables_by :
-    (before parts : List Lexeme) (xs : List Name) → AreListed IsVariable parts xs → Dotted (before ++ l.Mark m.OpenRound ∷ parts ++ l.Mark m.CloseRound ∷ []) → EndsPred before
+    (before parts : List Lexeme) (xs : List Name) → AreListed IsVariable parts xs →
+    Dotted (before ++ l.Mark m.OpenRound ∷ parts ++ l.Mark m.CloseRound ∷ []) → EndsPred before
 variables_by before parts xs are (own front e) =
     let last = last_both (before ++ l.Mark m.OpenRound ∷ parts) front (l.Mark m.CloseRound) (l.Keyword k.This) e in
     let differ : l.Mark m.CloseRound ≡ l.Keyword k.This = last.1 in
     absurd (cc)
 variables_by before parts xs are (output front us a e h) =
-    let last = last_both (before ++ l.Mark m.OpenRound ∷ parts) (front ++ l.Mark m.At ∷ l.Mark m.OpenRound ∷ us) (l.Mark m.CloseRound) (l.Mark m.CloseRound) e in
-    let same = same_bracket before (front ++ l.Mark m.At ∷ []) parts us (l.Mark m.OpenRound) (l.Mark m.OpenRound) (λ n. refl) (λ n. refl) (listed_balance variable_balance are) (pred_balance h)
+    let last = last_both (before ++ l.Mark m.OpenRound ∷ parts) (front ++ l.Mark m.At ∷ l.Mark m.OpenRound ∷ us) (l.Mark m.CloseRound)
+    (l.Mark m.CloseRound) e in
+    let same = same_bracket before (front ++ l.Mark m.At ∷ []) parts us (l.Mark m.OpenRound) (l.Mark m.OpenRound) (λ n. refl) (λ n. refl)
+    (listed_balance variable_balance are) (pred_balance h)
     (last.0 ∙ sym (append_assoc front (l.Mark m.At ∷ []) (l.Mark m.OpenRound ∷ us))) in
     absurd (no_pred parts xs are a (subst (λ (vs : List Lexeme). IsPred vs a) (sym same.2) h))
 variables_by before parts xs are (input front us ws a ys e h i) =
     let head : List Lexeme = front ++ l.Mark m.Question ∷ l.Mark m.OpenRound ∷ us in
-    let last = last_both (before ++ l.Mark m.OpenRound ∷ parts) (head ++ l.Mark m.CloseRound ∷ l.Mark m.OpenRound ∷ ws) (l.Mark m.CloseRound) (l.Mark m.CloseRound) e in
-    let same = same_bracket before (head ++ l.Mark m.CloseRound ∷ []) parts ws (l.Mark m.OpenRound) (l.Mark m.OpenRound) (λ n. refl) (λ n. refl) (listed_balance variable_balance are) (optional_balance variable_balance i)
+    let last = last_both (before ++ l.Mark m.OpenRound ∷ parts) (head ++ l.Mark m.CloseRound ∷ l.Mark m.OpenRound ∷ ws) (l.Mark m.CloseRound)
+    (l.Mark m.CloseRound) e in
+    let same = same_bracket before (head ++ l.Mark m.CloseRound ∷ []) parts ws (l.Mark m.OpenRound) (l.Mark m.OpenRound) (λ n. refl) (λ n. refl)
+    (listed_balance variable_balance are) (optional_balance variable_balance i)
     (last.0 ∙ sym (append_assoc head (l.Mark m.CloseRound ∷ []) (l.Mark m.OpenRound ∷ ws))) in
     record { front = front; us = us; p = a; stands = same.0; pred = h }
 
@@ -115,7 +121,8 @@ false_first : (us : List Lexeme) (A : Process) → IsProcess (l.Keyword k.False 
 false_first us A h = let run = (process_came h).runs in cc
 
 -- tokens up to a `}` that begin with another one
-begins_with : (t : Lexeme) (ts us rest : List Lexeme) → ¬ (t ≡ l.Mark m.CloseCurly) → t ∷ ts ≡ us ++ l.Mark m.CloseCurly ∷ rest → (vs : List Lexeme) × (us ≡ t ∷ vs) × (ts ≡ vs ++ l.Mark m.CloseCurly ∷ rest)
+begins_with : (t : Lexeme) (ts us rest : List Lexeme) → ¬ (t ≡ l.Mark m.CloseCurly) → t ∷ ts ≡ us ++ l.Mark m.CloseCurly ∷ rest →
+    (vs : List Lexeme) × (us ≡ t ∷ vs) × (ts ≡ vs ++ l.Mark m.CloseCurly ∷ rest)
 begins_with t ts [] rest other e = absurd (other (cons_both e).0)
 begins_with t ts (u ∷ us) rest other e = let h = cons_both e in (us, ap (λ (x : Lexeme). x ∷ us) (sym h.0), h.1)
 
@@ -124,21 +131,26 @@ one_first : (t : Lexeme) (ts us rest : List Lexeme) (A : Process) → ¬ (t ≡ 
 one_first t ts us rest A other never h e =
     let b = begins_with t ts us rest other e in never b.0 (subst (λ (ws : List Lexeme). IsProcess ws A) b.1 h)
 
-no_process : (item tail us rest : List Lexeme) (x : Scalar) (A : Process) → IsScalar item x → IsProcess us A → item ++ l.Mark m.Comma ∷ tail ≡ us ++ l.Mark m.CloseCurly ∷ rest → ⊥
+no_process : (item tail us rest : List Lexeme) (x : Scalar) (A : Process) → IsScalar item x → IsProcess us A →
+    item ++ l.Mark m.Comma ∷ tail ≡ us ++ l.Mark m.CloseCurly ∷ rest → ⊥
 no_process _ tail us rest _ A (lit.number {n} fits) h e =
     let b = begins_with (l.Number n) (l.Mark m.Comma ∷ tail) us rest (λ d. (cc)) e in
     let c = begins_with (l.Mark m.Comma) tail b.0 rest (λ d. (cc)) b.2 in
     zero_comma n c.0 A (subst (λ (ws : List Lexeme). IsProcess ws A) (b.1 ∙ ap (λ (ws : List Lexeme). l.Number n ∷ ws) c.1) h)
-no_process _ tail us rest _ A (lit.negative {n} fits) h e = one_first (l.Mark m.Minus) (l.Number n ∷ l.Mark m.Comma ∷ tail) us rest A (λ d. (cc)) (λ vs i. minus_first vs A i) h e
-no_process _ tail us rest _ A (lit.text {bytes}) h e = one_first (l.Text bytes) (l.Mark m.Comma ∷ tail) us rest A (λ d. (cc)) (λ vs i. text_first bytes vs A i) h e
+no_process _ tail us rest _ A (lit.negative {n} fits) h e = one_first (l.Mark m.Minus) (l.Number n ∷ l.Mark m.Comma ∷ tail) us rest A (λ d. (cc))
+    (λ vs i. minus_first vs A i) h e
+no_process _ tail us rest _ A (lit.text {bytes}) h e = one_first (l.Text bytes) (l.Mark m.Comma ∷ tail) us rest A (λ d. (cc))
+    (λ vs i. text_first bytes vs A i) h e
 no_process _ tail us rest _ A lit.yes h e = one_first (l.Keyword k.True) (l.Mark m.Comma ∷ tail) us rest A (λ d. (cc)) (λ vs i. true_first vs A i) h e
-no_process _ tail us rest _ A lit.no h e = one_first (l.Keyword k.False) (l.Mark m.Comma ∷ tail) us rest A (λ d. (cc)) (λ vs i. false_first vs A i) h e
+no_process _ tail us rest _ A lit.no h e = one_first (l.Keyword k.False) (l.Mark m.Comma ∷ tail) us rest A (λ d. (cc))
+    (λ vs i. false_first vs A i) h e
 
 -- the first values of a component begin with a name
 initial_first : (ts : List Lexeme) (x : Name × Value) → IsInitial ts x → (a : Name) × (us : List Lexeme) × (ts ≡ l.Name a ∷ us)
 initial_first _ _ (g.initial {a = a} h) = (a, _, refl)
 
-values_first : {ts : List Lexeme} {xs : List (Name × Value)} → AreRepeated IsInitial ts xs → (ts ≡ []) ⊎ ((a : Name) × (us : List Lexeme) × (ts ≡ l.Name a ∷ us))
+values_first : {ts : List Lexeme} {xs : List (Name × Value)} → AreRepeated IsInitial ts xs →
+    (ts ≡ []) ⊎ ((a : Name) × (us : List Lexeme) × (ts ≡ l.Name a ∷ us))
 values_first listed.none = inl refl
 values_first (listed.more {ts} {us} {a = x} h i) = by (values_first h) (initial_first us x i)
   where
@@ -160,13 +172,16 @@ scalar_first _ _ (lit.text {bytes}) = (l.Text bytes, [], refl, (λ d. (cc), λ a
 scalar_first _ _ lit.yes = (l.Keyword k.True, [], refl, (λ d. (cc), λ a d. (cc)))
 scalar_first _ _ lit.no = (l.Keyword k.False, [], refl, (λ d. (cc), λ a d. (cc)))
 
-no_component : (item tail us rest : List Lexeme) (x : Scalar) (xs : List (Name × Value)) → IsScalar item x → AreRepeated IsInitial us xs → item ++ tail ≡ us ++ l.Keyword k.Show ∷ rest → ⊥
+no_component : (item tail us rest : List Lexeme) (x : Scalar) (xs : List (Name × Value)) → IsScalar item x → AreRepeated IsInitial us xs →
+    item ++ tail ≡ us ++ l.Keyword k.Show ∷ rest → ⊥
 unfolding StartsScalar
 no_component item tail us rest x xs s h e = by (scalar_first item x s) (values_first h)
   where
-    by : (t : Lexeme) × (ts : List Lexeme) × (item ≡ t ∷ ts) × StartsScalar t → (us ≡ []) ⊎ ((a : Name) × (vs : List Lexeme) × (us ≡ l.Name a ∷ vs)) → ⊥
+    by : (t : Lexeme) × (ts : List Lexeme) × (item ≡ t ∷ ts) × StartsScalar t →
+        (us ≡ []) ⊎ ((a : Name) × (vs : List Lexeme) × (us ≡ l.Name a ∷ vs)) → ⊥
     by f (inl none) =
-        let both : f.0 ∷ (f.1 ++ tail) ≡ l.Keyword k.Show ∷ rest = ap (λ (ws : List Lexeme). ws ++ tail) (sym f.2) ∙ e ∙ ap (λ (ws : List Lexeme). ws ++ l.Keyword k.Show ∷ rest) none in
+        let both : f.0 ∷ (f.1 ++ tail) ≡ l.Keyword k.Show ∷ rest = ap (λ (ws : List Lexeme). ws ++ tail) (sym f.2) ∙ e ∙ ap
+        (λ (ws : List Lexeme). ws ++ l.Keyword k.Show ∷ rest) none in
         f.3.0 (cons_both both).0
     by f (inr n) =
         let both : f.0 ∷ (f.1 ++ tail) ≡ l.Name n.0 ∷ (n.1 ++ l.Keyword k.Show ∷ rest) =
@@ -174,7 +189,8 @@ no_component item tail us rest x xs s h e = by (scalar_first item x s) (values_f
         f.3.1 n.0 (cons_both both).0
 
 -- ---- so a `{` before scalars and a comma opens a set literal
-not_none : {us : List Lexeme} {xs : List Scalar} (parts mid : List Lexeme) → MayBeListed IsScalar us xs → us ≡ parts ++ l.Mark m.Comma ∷ mid → AreListed IsScalar us xs
+not_none : {us : List Lexeme} {xs : List Scalar} (parts mid : List Lexeme) → MayBeListed IsScalar us xs → us ≡ parts ++ l.Mark m.Comma ∷ mid →
+    AreListed IsScalar us xs
 not_none parts mid (listed.some h) e = h
 not_none [] mid listed.none e = absurd (cc)
 not_none (p ∷ parts) mid listed.none e = absurd (cc)
@@ -196,7 +212,8 @@ in_set parts after us rest scalars xs are h e = by (splits parts us (l.Mark m.Co
     by (second mid a b) =
         absurd (no_close us mid (optional_balance scalar_balance h) (λ n. ap (open_behind n) (sym a) ∙ listed_balance scalar_balance are n))
 
-sets_by : (parts after : List Lexeme) (scalars : List Scalar) → AreListed IsScalar parts scalars → Opened (parts ++ l.Mark m.Comma ∷ after) → ClosesSet parts after
+sets_by : (parts after : List Lexeme) (scalars : List Scalar) → AreListed IsScalar parts scalars → Opened (parts ++ l.Mark m.Comma ∷ after) →
+    ClosesSet parts after
 sets_by parts after scalars are (literal us rest xs e h) = in_set parts after us rest scalars xs are h e
 sets_by parts after scalars are (braced us rest A e h) = by (first_of are)
   where
@@ -204,14 +221,16 @@ sets_by parts after scalars are (braced us rest A e h) = by (first_of are)
     by (alone x s) = absurd (no_process parts after us rest x A s h e)
     by (with_more item more x s f) =
         absurd (no_process item (more ++ l.Mark m.Comma ∷ after) us rest x A s h
-        (sym (append_assoc item (l.Mark m.Comma ∷ more) (l.Mark m.Comma ∷ after)) ∙ ap (λ (ws : List Lexeme). ws ++ l.Mark m.Comma ∷ after) (sym f) ∙ e))
+        (sym (append_assoc item (l.Mark m.Comma ∷ more) (l.Mark m.Comma ∷ after)) ∙ ap (λ (ws : List Lexeme). ws ++ l.Mark m.Comma ∷ after) (sym f)
+        ∙ e))
 sets_by parts after scalars are (component us rest xs e h) = by (first_of are)
   where
     by : First IsScalar parts → ClosesSet parts after
     by (alone x s) = absurd (no_component parts (l.Mark m.Comma ∷ after) us rest x xs s h e)
     by (with_more item more x s f) =
         absurd (no_component item (l.Mark m.Comma ∷ more ++ l.Mark m.Comma ∷ after) us rest x xs s h
-        (sym (append_assoc item (l.Mark m.Comma ∷ more) (l.Mark m.Comma ∷ after)) ∙ ap (λ (ws : List Lexeme). ws ++ l.Mark m.Comma ∷ after) (sym f) ∙ e))
+        (sym (append_assoc item (l.Mark m.Comma ∷ more) (l.Mark m.Comma ∷ after)) ∙ ap (λ (ws : List Lexeme). ws ++ l.Mark m.Comma ∷ after) (sym f)
+        ∙ e))
 
 sets :
     (ts : List Lexeme) (program : PlainProgram) → IsProgram ts program →
@@ -219,7 +238,8 @@ sets :
     ts ≡ before ++ l.Mark m.OpenCurly ∷ parts ++ l.Mark m.Comma ∷ after → ClosesSet parts after
 sets ts program h before parts after scalars are e =
     sets_by parts after scalars are
-    (token_at h before (parts ++ l.Mark m.Comma ∷ after) (l.Mark m.OpenCurly) (e ∙ append_assoc before (l.Mark m.OpenCurly ∷ parts) (l.Mark m.Comma ∷ after)))
+    (token_at h before (parts ++ l.Mark m.Comma ∷ after) (l.Mark m.OpenCurly)
+    (e ∙ append_assoc before (l.Mark m.OpenCurly ∷ parts) (l.Mark m.Comma ∷ after)))
 
 pub marks_stand : MarksStand
 marks_stand = record {

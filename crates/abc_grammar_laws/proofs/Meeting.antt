@@ -21,6 +21,8 @@ apart all xs ys ts us h k round curly =
 pub limits_meet : LimitsMeet
 limits_meet = record {
   exprs = λ ts k h i.
-      apart (take k ts) h.before i.before h.parts i.parts (listed_balance (λ us a j. expr_balance j) h.listed) (listed_balance scalar_balance i.listed) h.stands i.stands;
-  variables = λ ts k h i. apart (take k ts) h.before i.before h.parts i.parts (listed_balance variable_balance h.listed) (listed_balance scalar_balance i.listed) h.stands i.stands;
+      apart (take k ts) h.before i.before h.parts i.parts (listed_balance (λ us a j. expr_balance j) h.listed)
+      (listed_balance scalar_balance i.listed) h.stands i.stands;
+  variables = λ ts k h i. apart (take k ts) h.before i.before h.parts i.parts (listed_balance variable_balance h.listed)
+      (listed_balance scalar_balance i.listed) h.stands i.stands;
 }

@@ -24,5 +24,6 @@ pub reads_bad : (bytes : List ℕ) (found : List Token) (before : Before) (rest 
 reads_bad bytes found before rest fault on e p = subst (λ (us : List Token). Reads bytes us (Some fault)) (append-nil found) (on [] (Some fault) (e, p))
 
 -- a text has a bad token exactly where its reading ends with a fault, and then for this one
-pub fault_read : (bytes : List ℕ) (ts : List Token) (found : Option Fault) (fault : Fault) → Reads bytes ts found → IsFirstBad bytes fault → found ≡ Some fault
+pub fault_read : (bytes : List ℕ) (ts : List Token) (found : Option Fault) (fault : Fault) → Reads bytes ts found → IsFirstBad bytes fault →
+    found ≡ Some fault
 fault_read bytes ts found fault h bad = ((one_reading bytes).one ts bad.0 found (Some fault) h bad.1).1

@@ -163,7 +163,8 @@ module _ (ts : Tokens) (fault : Option Fault) where
       before (cause.Check d) o h = h
 
 -- all the tokens begin a text, and what follows them is refused
-pub end_at : (ts : Tokens) (fault : Option Fault) → HasLexical fault → Begins IsSomePred ts → NoLimits ts (length ts) → (IsSomePred ts → ⊥) → IsFirstOfPred ts fault (end_cause fault) (length ts)
+pub end_at : (ts : Tokens) (fault : Option Fault) → HasLexical fault → Begins IsSomePred ts → NoLimits ts (length ts) →
+    (IsSomePred ts → ⊥) → IsFirstOfPred ts fault (end_cause fault) (length ts)
 end_at ts None lexical b none wrong = record {
   applies = (omega arith, λ goes. wrong (goes.1 refl));
   least = nothing_before ts None (length ts) (omega arith) (subst (λ (us : Tokens). Begins IsSomePred us) (sym (take_all ts)) b) none;

@@ -107,14 +107,17 @@ each_word (x ∷ xs) h zero d lt = h 0 [] (omega arith)
 each_word (x ∷ xs) h (suc k) d lt = each_word xs (λ i e l. h (suc i) e (omega (arith, l))) k d (omega (arith, lt))
 
 -- the references behind the first ones, where the words behind all of them are so many and then more
-pub new_words : (bytes : List ℕ) (words : List (List ℕ)) (ts : List Token) (ks : List (Bor (List ℕ))) → All (StandsIn bytes) ts → map (λ w. w.now) ks ≡ names_behind words bytes ts
+pub new_words : (bytes : List ℕ) (words : List (List ℕ)) (ts : List Token) (ks : List (Bor (List ℕ))) → All (StandsIn bytes) ts →
+    map (λ w. w.now) ks ≡ names_behind words bytes ts
     → All (λ w. IsWord w.now) (drop (length words) ks)
 new_words bytes words ts ks h e =
     let new = behind_new bytes words ts h in
-    let more : map (λ w. w.now) (drop (length words) ks) ≡ new.more = map-drop (length words) ks ∙ ap (drop (length words)) (e ∙ new.whole) ∙ drop_front words new.more in
+    let more : map (λ w. w.now) (drop (length words) ks) ≡ new.more = map-drop (length words) ks ∙ ap (drop (length words)) (e ∙ new.whole)
+    ∙ drop_front words new.more in
     each_word (drop (length words) ks) (subst (All IsWord) (sym more) new.are)
 
-pub known_first : (bytes : List ℕ) (words : List (List ℕ)) (ts : List Token) (ks : List (Bor (List ℕ))) → map (λ w. w.now) ks ≡ names_behind words bytes ts → length words ≤ length ks
+pub known_first : (bytes : List ℕ) (words : List (List ℕ)) (ts : List Token) (ks : List (Bor (List ℕ))) →
+    map (λ w. w.now) ks ≡ names_behind words bytes ts → length words ≤ length ks
 known_first bytes words ts ks e =
     let g = behind_grows bytes words ts in
     omega (arith, length-map ks (λ (w : Bor (List ℕ)). w.now), ap (length {A = List ℕ}) (e ∙ g.1), length-append {A = List ℕ} words g.0)

@@ -56,16 +56,19 @@ good_len : (k l : TokenKind) (m n : ℕ) → Good k m ≡ Good l n → m ≡ n
 good_len k l m n e = cc
 
 keeps_run : (kind : TokenKind) (more n all : ℕ) (w : List ℕ) → n + more ≡ all
-    → Keeps all (if nat_le (word_len w) MOST_NAME then Good kind (word_len w + more) else Bad LongName) (if nat_le (word_len (take n w)) MOST_NAME then Good kind (word_len (take n w) + more) else Bad LongName)
+    → Keeps all (if nat_le (word_len w) MOST_NAME then Good kind (word_len w + more) else Bad LongName)
+    (if nat_le (word_len (take n w)) MOST_NAME then Good kind (word_len (take n w) + more) else Bad LongName)
 unfolding Keeps
 keeps_run kind more n all w size k e = by (nat_le (word_len w) MOST_NAME) refl e
   where
-    by : (c : Bool) → nat_le (word_len w) MOST_NAME ≡ c → (if c then Good kind (word_len w + more) else Bad LongName) ≡ Good k all → (if nat_le (word_len (take n w)) MOST_NAME then Good kind (word_len (take n w) + more) else Bad LongName) ≡ Good k all
+    by : (c : Bool) → nat_le (word_len w) MOST_NAME ≡ c → (if c then Good kind (word_len w + more) else Bad LongName) ≡ Good k all →
+        (if nat_le (word_len (take n w)) MOST_NAME then Good kind (word_len (take n w) + more) else Bad LongName) ≡ Good k all
     by true short e =
         let long = good_len kind k (word_len w + more) all e in
         let mine : length (take_while is_word_byte w) ≡ n = omega (arith, long, size) in
         let same : word_len (take n w) ≡ word_len w = ap length (run_alone is_word_byte w n mine) in
-        ap (λ (l : ℕ). if nat_le l MOST_NAME then Good kind (l + more) else Bad LongName) same ∙ ap (λ (c : Bool). if c then Good kind (word_len w + more) else Bad LongName) short ∙ e
+        ap (λ (l : ℕ). if nat_le l MOST_NAME then Good kind (l + more) else Bad LongName) same ∙ ap
+        (λ (c : Bool). if c then Good kind (word_len w + more) else Bad LongName) short ∙ e
     by false short e = absurd (let e' : Bad LongName ≡ Good k all = e in cc)
 
 plus_zero : (n : ℕ) → n + 0 ≡ n
@@ -73,8 +76,10 @@ plus_zero n = omega arith
 
 keeps_word : (n : ℕ) (w : List ℕ) → Keeps n (word_token w) (word_token (take n w))
 keeps_word n w =
-    subst (λ (x : Next). Keeps n x (word_token (take n w))) (ap (λ (l : ℕ). if nat_le (word_len w) MOST_NAME then Good Word l else Bad LongName) (plus_zero (word_len w)))
-    (subst (λ (y : Next). Keeps n (if nat_le (word_len w) MOST_NAME then Good Word (word_len w + 0) else Bad LongName) y) (ap (λ (l : ℕ). if nat_le (word_len (take n w)) MOST_NAME then Good Word l else Bad LongName) (plus_zero (word_len (take n w))))
+    subst (λ (x : Next). Keeps n x (word_token (take n w)))
+    (ap (λ (l : ℕ). if nat_le (word_len w) MOST_NAME then Good Word l else Bad LongName) (plus_zero (word_len w)))
+    (subst (λ (y : Next). Keeps n (if nat_le (word_len w) MOST_NAME then Good Word (word_len w + 0) else Bad LongName) y)
+    (ap (λ (l : ℕ). if nat_le (word_len (take n w)) MOST_NAME then Good Word l else Bad LongName) (plus_zero (word_len (take n w))))
     (keeps_run Word 0 n n w (plus_zero n)))
 
 keeps_variable : (n : ℕ) (w : List ℕ) → Keeps (suc n) (variable_token w) (variable_token (take n w))
@@ -82,7 +87,9 @@ unfolding Keeps
 keeps_variable n [] k e = absurd (let e' : Bad BadByte ≡ Good k (suc n) = e in cc)
 keeps_variable zero (b ∷ w) k e = by (is_letter b) refl e
   where
-    by : (c : Bool) → is_letter b ≡ c → (if c then (if nat_le (word_len (b ∷ w)) MOST_NAME then Good Variable (word_len (b ∷ w) + 1) else Bad LongName) else Bad BadByte) ≡ Good k 1 → variable_token [] ≡ Good k 1
+    by : (c : Bool) → is_letter b ≡ c →
+        (if c then (if nat_le (word_len (b ∷ w)) MOST_NAME then Good Variable (word_len (b ∷ w) + 1) else Bad LongName) else Bad BadByte)
+        ≡ Good k 1 → variable_token [] ≡ Good k 1
     by true l e = short (nat_le (word_len (b ∷ w)) MOST_NAME) e
       where
         short : (c : Bool) → (if c then Good Variable (word_len (b ∷ w) + 1) else Bad LongName) ≡ Good k 1 → variable_token [] ≡ Good k 1
@@ -90,7 +97,8 @@ keeps_variable zero (b ∷ w) k e = by (is_letter b) refl e
         short false e = absurd (let e' : Bad LongName ≡ Good k 1 = e in cc)
     by false l e = absurd (let e' : Bad BadByte ≡ Good k 1 = e in cc)
 keeps_variable (suc n) (b ∷ w) k e =
-    keeps_if (suc (suc n)) (is_letter b) (if nat_le (word_len (b ∷ w)) MOST_NAME then Good Variable (word_len (b ∷ w) + 1) else Bad LongName) (Bad BadByte)
+    keeps_if (suc (suc n)) (is_letter b) (if nat_le (word_len (b ∷ w)) MOST_NAME then Good Variable (word_len (b ∷ w) + 1) else Bad LongName)
+    (Bad BadByte)
     (if nat_le (word_len (b ∷ take n w)) MOST_NAME then Good Variable (word_len (b ∷ take n w) + 1) else Bad LongName) (Bad BadByte)
     (λ _. keeps_run Variable 1 (suc n) (suc (suc n)) (b ∷ w) (omega arith)) (λ _. keeps_bad (suc (suc n)) BadByte (Bad BadByte)) k e
 

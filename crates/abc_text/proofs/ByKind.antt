@@ -14,8 +14,10 @@ use Rattle.abc_text.specs.Tokens.{is_letter, is_digit, is_symbol, word_len, vari
 module _ (before : Before) (P : List ℕ → Next → Type 0) (end : P [] End) (bad : (bs : List ℕ) (c : Cause) → IsLexical c → P bs (Bad c))
     (word : (b : ℕ) (bs : List ℕ) → nat_le (word_len (b ∷ bs)) MOST_NAME ≡ true → P (b ∷ bs) (Good Word (word_len (b ∷ bs))))
     (variable : (b : ℕ) (bs : List ℕ) → nat_le (word_len bs) MOST_NAME ≡ true → P (b ∷ bs) (Good Variable (word_len bs + 1)))
-    (number : (bs : List ℕ) → nat_le (decimal (take_while is_digit bs)) (greatest before) ≡ true → P bs (Good Number (length (take_while is_digit bs))))
-    (text : (b : ℕ) (bs : List ℕ) (n : ℕ) → text_len false bs ≡ Some n → nat_le (length (text_value false bs)) LONGEST_TEXT ≡ true → P (b ∷ bs) (Good Text (n + 1)))
+    (number : (bs : List ℕ) → nat_le (decimal (take_while is_digit bs)) (greatest before) ≡ true →
+    P bs (Good Number (length (take_while is_digit bs))))
+    (text : (b : ℕ) (bs : List ℕ) (n : ℕ) → text_len false bs ≡ Some n → nat_le (length (text_value false bs)) LONGEST_TEXT ≡ true →
+    P (b ∷ bs) (Good Text (n + 1)))
     (symbol : (b : ℕ) (bs : List ℕ) → is_symbol b ≡ true → P (b ∷ bs) (Good Symbol 1))
     (becomes : (b x : ℕ) (xs : List ℕ) → (b == 58) ≡ true → (x == 61) ≡ true → P (b ∷ (x ∷ xs)) (Good Symbol 2)) where
   if_next : (bs : List ℕ) (c : Bool) (x y : Next) → (c ≡ true → P bs x) → P bs y → P bs (if c then x else y)
@@ -25,17 +27,21 @@ module _ (before : Before) (P : List ℕ → Next → Type 0) (end : P [] End) (
   if_variable : (b : ℕ) (bs : List ℕ) → P (b ∷ bs) (variable_token bs)
   if_variable b [] = bad (b ∷ []) BadByte tt
   if_variable b (x ∷ xs) =
-      if_next (b ∷ (x ∷ xs)) (is_letter x) (if nat_le (word_len (x ∷ xs)) MOST_NAME then Good Variable (word_len (x ∷ xs) + 1) else Bad LongName) (Bad BadByte)
-      (λ _. if_next (b ∷ (x ∷ xs)) (nat_le (word_len (x ∷ xs)) MOST_NAME) (Good Variable (word_len (x ∷ xs) + 1)) (Bad LongName) (variable b (x ∷ xs)) (bad (b ∷ (x ∷ xs)) LongName tt))
+      if_next (b ∷ (x ∷ xs)) (is_letter x) (if nat_le (word_len (x ∷ xs)) MOST_NAME then Good Variable (word_len (x ∷ xs) + 1) else Bad LongName)
+      (Bad BadByte)
+      (λ _. if_next (b ∷ (x ∷ xs)) (nat_le (word_len (x ∷ xs)) MOST_NAME) (Good Variable (word_len (x ∷ xs) + 1)) (Bad LongName)
+      (variable b (x ∷ xs)) (bad (b ∷ (x ∷ xs)) LongName tt))
       (bad (b ∷ (x ∷ xs)) BadByte tt)
 
   if_number : (bs : List ℕ) → P bs (number_token before bs)
   unfolding number_token
-  if_number bs = if_next bs (nat_le (decimal (take_while is_digit bs)) (greatest before)) (Good Number (length (take_while is_digit bs))) (Bad WideNumber) (number bs) (bad bs WideNumber tt)
+  if_number bs = if_next bs (nat_le (decimal (take_while is_digit bs)) (greatest before)) (Good Number (length (take_while is_digit bs)))
+      (Bad WideNumber) (number bs) (bad bs WideNumber tt)
 
   if_closed : (b : ℕ) (bs : List ℕ) (o : Option ℕ) → text_len false bs ≡ o → P (b ∷ bs) (closed_text (length (text_value false bs)) o)
   if_closed b bs None e = bad (b ∷ bs) BadText tt
-  if_closed b bs (Some n) e = if_next (b ∷ bs) (nat_le (length (text_value false bs)) LONGEST_TEXT) (Good Text (n + 1)) (Bad LongText) (text b bs n e) (bad (b ∷ bs) LongText tt)
+  if_closed b bs (Some n) e = if_next (b ∷ bs) (nat_le (length (text_value false bs)) LONGEST_TEXT) (Good Text (n + 1)) (Bad LongText) (text b bs n e)
+      (bad (b ∷ bs) LongText tt)
 
   if_text : (b : ℕ) (bs : List ℕ) → P (b ∷ bs) (text_token bs)
   unfolding text_token
@@ -49,7 +55,9 @@ module _ (before : Before) (P : List ℕ → Next → Type 0) (end : P [] End) (
   unfolding next
   by_kind [] = end
   by_kind (b ∷ bs) =
-      if_next (b ∷ bs) (is_letter b) _ _ (λ _. if_next (b ∷ bs) (nat_le (word_len (b ∷ bs)) MOST_NAME) (Good Word (word_len (b ∷ bs))) (Bad LongName) (word b bs) (bad (b ∷ bs) LongName tt))
+      if_next (b ∷ bs) (is_letter b) _ _
+      (λ _. if_next (b ∷ bs) (nat_le (word_len (b ∷ bs)) MOST_NAME) (Good Word (word_len (b ∷ bs))) (Bad LongName) (word b bs)
+      (bad (b ∷ bs) LongName tt))
       (if_next (b ∷ bs) (b == 36) _ _ (λ _. if_variable b bs)
       (if_next (b ∷ bs) (is_digit b) _ _ (λ _. if_number (b ∷ bs))
       (if_next (b ∷ bs) (b == 34) _ _ (λ _. if_text b bs)

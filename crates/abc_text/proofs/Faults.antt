@@ -20,7 +20,8 @@ bad_is : (before : Before) (bytes : List ℕ) → IfBad bytes (next before bytes
 unfolding IfBad
 bad_is before = by_kind before IfBad tt (λ _ c h. h) (λ _ _ _. tt) (λ _ _ _. tt) (λ _ _. tt) (λ _ _ _ _ _. tt) (λ _ _ _. tt) (λ _ _ _ _ _. tt)
 
-lexical : (size : ℕ) (before : Before) (bytes : List ℕ) (ts : List Token) (fault : Fault) → IsRead size before bytes ts (Some fault) → IsLexical fault.cause
+lexical : (size : ℕ) (before : Before) (bytes : List ℕ) (ts : List Token) (fault : Fault) → IsRead size before bytes ts (Some fault) →
+    IsLexical fault.cause
 unfolding IfBad
 lexical size before bytes [] fault h = subst (IfBad (skip bytes)) h.0 (bad_is before (skip bytes))
 lexical size before bytes (t ∷ ts) fault h = lexical size (stands_after before t.kind (spelled bytes t)) (left bytes t) ts fault h.1

@@ -50,16 +50,19 @@ good_same k l m n e = (cc, cc)
 
 -- a run of a word, of which `more` bytes stand before
 keeps_run : (rest : List ℕ) (n : ℕ) (kind : TokenKind) (more : ℕ) (w : List ℕ) → n ≡ length w + more → (MayFollow kind rest → Stops is_word_byte rest)
-    → Keeps rest n (if nat_le (word_len w) MOST_NAME then Good kind (word_len w + more) else Bad LongName) (if nat_le (word_len (w ++ rest)) MOST_NAME then Good kind (word_len (w ++ rest) + more) else Bad LongName)
+    → Keeps rest n (if nat_le (word_len w) MOST_NAME then Good kind (word_len w + more) else Bad LongName)
+    (if nat_le (word_len (w ++ rest)) MOST_NAME then Good kind (word_len (w ++ rest) + more) else Bad LongName)
 unfolding Keeps
 keeps_run rest n kind more w size stops k e m = by (nat_le (word_len w) MOST_NAME) refl e
   where
-    by : (c : Bool) → nat_le (word_len w) MOST_NAME ≡ c → (if c then Good kind (word_len w + more) else Bad LongName) ≡ Good k n → (if nat_le (word_len (w ++ rest)) MOST_NAME then Good kind (word_len (w ++ rest) + more) else Bad LongName) ≡ Good k n
+    by : (c : Bool) → nat_le (word_len w) MOST_NAME ≡ c → (if c then Good kind (word_len w + more) else Bad LongName) ≡ Good k n →
+        (if nat_le (word_len (w ++ rest)) MOST_NAME then Good kind (word_len (w ++ rest) + more) else Bad LongName) ≡ Good k n
     by true short e =
         let both = good_same kind k (word_len w + more) n e in
         let all : length (take_while is_word_byte w) ≡ length w = omega (arith, both.1, size) in
         let same : word_len (w ++ rest) ≡ word_len w = ap length (run_stops is_word_byte w rest all (stops (subst (λ (l : TokenKind). MayFollow l rest) (sym both.0) m))) in
-        ap (λ (l : ℕ). if nat_le l MOST_NAME then Good kind (l + more) else Bad LongName) same ∙ ap (λ (c : Bool). if c then Good kind (word_len w + more) else Bad LongName) short ∙ e
+        ap (λ (l : ℕ). if nat_le l MOST_NAME then Good kind (l + more) else Bad LongName) same ∙ ap
+        (λ (c : Bool). if c then Good kind (word_len w + more) else Bad LongName) short ∙ e
     by false short e = absurd (let e' : Bad LongName ≡ Good k n = e in cc)
 
 plus_zero : (n : ℕ) → n ≡ n + 0
@@ -67,8 +70,10 @@ plus_zero n = omega arith
 
 keeps_word : (rest w : List ℕ) → Keeps rest (length w) (word_token w) (word_token (w ++ rest))
 keeps_word rest w =
-    subst (λ (x : Next). Keeps rest (length w) x (word_token (w ++ rest))) (ap (λ (l : ℕ). if nat_le (word_len w) MOST_NAME then Good Word l else Bad LongName) (sym (plus_zero (word_len w))))
-    (subst (λ (y : Next). Keeps rest (length w) (if nat_le (word_len w) MOST_NAME then Good Word (word_len w + 0) else Bad LongName) y) (ap (λ (l : ℕ). if nat_le (word_len (w ++ rest)) MOST_NAME then Good Word l else Bad LongName) (sym (plus_zero (word_len (w ++ rest)))))
+    subst (λ (x : Next). Keeps rest (length w) x (word_token (w ++ rest)))
+    (ap (λ (l : ℕ). if nat_le (word_len w) MOST_NAME then Good Word l else Bad LongName) (sym (plus_zero (word_len w))))
+    (subst (λ (y : Next). Keeps rest (length w) (if nat_le (word_len w) MOST_NAME then Good Word (word_len w + 0) else Bad LongName) y)
+    (ap (λ (l : ℕ). if nat_le (word_len (w ++ rest)) MOST_NAME then Good Word l else Bad LongName) (sym (plus_zero (word_len (w ++ rest)))))
     (keeps_run rest (length w) Word 0 w (omega arith) (λ s. s)))
 
 keeps_variable : (rest w : List ℕ) → Keeps rest (length w + 1) (variable_token w) (variable_token (w ++ rest))

@@ -50,13 +50,16 @@ letter_is_word b l = rw l refl
 
 word_within : (b : ℕ) (bs : List ℕ) → is_letter b ≡ true → IsWithin (length (b ∷ bs)) (word_token (b ∷ bs))
 unfolding IsWithin
-word_within b bs l = if_within (length (b ∷ bs)) (nat_le (word_len (b ∷ bs)) MOST_NAME) (Good Word (word_len (b ∷ bs))) (Bad LongName) (λ _. (run_long is_word_byte b bs (letter_is_word b l), run_short is_word_byte (b ∷ bs))) (λ _. tt)
+word_within b bs l = if_within (length (b ∷ bs)) (nat_le (word_len (b ∷ bs)) MOST_NAME) (Good Word (word_len (b ∷ bs))) (Bad LongName)
+    (λ _. (run_long is_word_byte b bs (letter_is_word b l), run_short is_word_byte (b ∷ bs))) (λ _. tt)
 
 variable_within : (bs : List ℕ) → IsWithin (suc (length bs)) (variable_token bs)
 unfolding IsWithin
 variable_within [] = tt
-variable_within (b ∷ bs) = if_within (suc (length (b ∷ bs))) (is_letter b) (if nat_le (word_len (b ∷ bs)) MOST_NAME then Good Variable (word_len (b ∷ bs) + 1) else Bad LongName) (Bad BadByte)
-    (λ _. if_within (suc (length (b ∷ bs))) (nat_le (word_len (b ∷ bs)) MOST_NAME) (Good Variable (word_len (b ∷ bs) + 1)) (Bad LongName) (λ _. (omega arith, omega (arith, run_short is_word_byte (b ∷ bs)))) (λ _. tt)) (λ _. tt)
+variable_within (b ∷ bs) = if_within (suc (length (b ∷ bs))) (is_letter b)
+    (if nat_le (word_len (b ∷ bs)) MOST_NAME then Good Variable (word_len (b ∷ bs) + 1) else Bad LongName) (Bad BadByte)
+    (λ _. if_within (suc (length (b ∷ bs))) (nat_le (word_len (b ∷ bs)) MOST_NAME) (Good Variable (word_len (b ∷ bs) + 1)) (Bad LongName)
+    (λ _. (omega arith, omega (arith, run_short is_word_byte (b ∷ bs)))) (λ _. tt)) (λ _. tt)
 
 number_within : (before : Before) (b : ℕ) (bs : List ℕ) → is_digit b ≡ true → IsWithin (length (b ∷ bs)) (number_token before (b ∷ bs))
 unfolding IsWithin number_token
@@ -88,7 +91,8 @@ text_at_most false (b ∷ bs) =
 closed_within : (most size : ℕ) (n : Option ℕ) → IsAtMost most n → IsWithin (suc most) (closed_text size n)
 unfolding IsWithin IsAtMost
 closed_within most size None h = tt
-closed_within most size (Some n) h = if_within (suc most) (nat_le size LONGEST_TEXT) (Good Text (n + 1)) (Bad LongText) (λ _. (omega arith, omega arith)) (λ _. tt)
+closed_within most size (Some n) h = if_within (suc most) (nat_le size LONGEST_TEXT) (Good Text (n + 1)) (Bad LongText)
+    (λ _. (omega arith, omega arith)) (λ _. tt)
 
 text_within : (bs : List ℕ) → IsWithin (suc (length bs)) (text_token bs)
 unfolding text_token

@@ -65,7 +65,8 @@ pub named_have_numbers : NamedHaveNumbers
 named_have_numbers words bytes [] k d h = absurd (omega (arith, h))
 named_have_numbers words bytes (t ∷ ts) zero d h =
     let g = behind_grows bytes (with_named words (named bytes t)) ts in
-    subst (λ (ws : List (List ℕ)). HasName ws (named bytes t)) (sym g.1) (name_kept (with_named words (named bytes t)) g.0 (named bytes t) (name_given words (named bytes t)))
+    subst (λ (ws : List (List ℕ)). HasName ws (named bytes t)) (sym g.1)
+    (name_kept (with_named words (named bytes t)) g.0 (named bytes t) (name_given words (named bytes t)))
 named_have_numbers words bytes (t ∷ ts) (suc k) d h = named_have_numbers (with_named words (named bytes t)) bytes ts k d (omega (arith, h))
 
 -- the number of a word that has one is below their number
@@ -73,6 +74,7 @@ pub number_below : (words : List (List ℕ)) (word : List ℕ) → has_word word
 number_below [] word h = absurd (let h' : false ≡ true = h in cc)
 number_below (w ∷ ws) word h = by (number_below ws word) (bytes_eq word w) h
   where
-    by : (has_word ws word ≡ true → number_in ws word < length ws) → (b : Bool) → (b || has_word ws word) ≡ true → cond (not b) (1 + number_in ws word) 0 < length (w ∷ ws)
+    by : (has_word ws word ≡ true → number_in ws word < length ws) → (b : Bool) →
+        (b || has_word ws word) ≡ true → cond (not b) (1 + number_in ws word) 0 < length (w ∷ ws)
     by more true e = omega arith
     by more false e = let below = more e in omega (arith, below)

@@ -32,7 +32,8 @@ sign_stands before kind word e = by (ends_operand kind word) (is_sign before kin
     by false false e = absurd (cc)
 
 -- so the last of them is a sign
-last_signed : (before : Before) (bytes : List ℕ) (t : Token) (ts : List Token) → SignedBehind before bytes (t ∷ ts) → (fs : List Bool) × (signs_from before bytes (t ∷ ts) ≡ fs ++ true ∷ [])
+last_signed : (before : Before) (bytes : List ℕ) (t : Token) (ts : List Token) → SignedBehind before bytes (t ∷ ts) →
+    (fs : List Bool) × (signs_from before bytes (t ∷ ts) ≡ fs ++ true ∷ [])
 unfolding SignedBehind
 last_signed before bytes t [] h = ([], ap (λ (b : Bool). b ∷ []) (sign_stands before t.kind (spelling bytes t) h))
 last_signed before bytes t (u ∷ us) h =
@@ -54,11 +55,13 @@ at_most Sign n h = by (cases_lt n (2 ^ 63))
     by (inr le) = inr (omega arith, refl)
 
 -- the bytes of the next token, as those of the text
-spelled_at : (bytes : List ℕ) (before : Before) (rest : List ℕ) (t : Token) → IsBack rest bytes → IsNext (length bytes) before rest t → spelling bytes t ≡ spelled rest t
+spelled_at : (bytes : List ℕ) (before : Before) (rest : List ℕ) (t : Token) → IsBack rest bytes → IsNext (length bytes) before rest t →
+    spelling bytes t ≡ spelled rest t
 spelled_at bytes before rest t back here =
     ap (take t.len) (back_at t.place (skip rest) bytes (back_back (skip rest) rest bytes (skip_back rest) back) here.place)
 
-number_at : (bytes : List ℕ) (before : Before) (rest : List ℕ) (t : Token) → IsBack rest bytes → IsNext (length bytes) before rest t → t.kind ≡ Number → number_of bytes t ≤ greatest before
+number_at : (bytes : List ℕ) (before : Before) (rest : List ℕ) (t : Token) → IsBack rest bytes → IsNext (length bytes) before rest t →
+    t.kind ≡ Number → number_of bytes t ≤ greatest before
 number_at bytes before rest t back here kind =
     let long : length (spelling bytes t) ≡ t.len = length-spelling bytes t (next_stands bytes before rest t back here) in
     let alone : next before (spelling bytes t) ≡ Good t.kind t.len =
@@ -70,14 +73,16 @@ no_front [] back t e = cc
 no_front (u ∷ front) back t e = cc
 
 fits :
-    (bytes : List ℕ) (before : Before) (rest : List ℕ) (ts : List Token) (fault : Option Fault) → IsBack rest bytes → IsRead (length bytes) before rest ts fault →
+    (bytes : List ℕ) (before : Before) (rest : List ℕ) (ts : List Token) (fault : Option Fault) → IsBack rest bytes →
+    IsRead (length bytes) before rest ts fault →
     (front back : List Token) (t : Token) → ts ≡ front ++ t ∷ back → t.kind ≡ Number →
     (number_of bytes t < 2 ^ 63) ⊎ ((number_of bytes t ≡ 2 ^ 63) × SignedBehind before bytes front)
 unfolding SignedBehind
 fits bytes before rest [] fault is h front back t e kind = absurd (no_front front back t e)
 fits bytes before rest (u ∷ us) fault is h [] back t e kind =
     let same : u ≡ t = cc in
-    at_most before (number_of bytes t) (subst (λ (v : Token). v.kind ≡ Number → number_of bytes v ≤ greatest before) same (number_at bytes before rest u is h.0) kind)
+    at_most before (number_of bytes t)
+    (subst (λ (v : Token). v.kind ≡ Number → number_of bytes v ≤ greatest before) same (number_at bytes before rest u is h.0) kind)
 fits bytes before rest (u ∷ us) fault is h (v ∷ front) back t e kind =
     let same : u ≡ v = cc in
     let more : us ≡ front ++ t ∷ back = cc in
@@ -85,11 +90,13 @@ fits bytes before rest (u ∷ us) fault is h (v ∷ front) back t e kind =
     let is' = back_back (left rest u) (skip rest) bytes (drop_back u.len (skip rest) w.1) (back_back (skip rest) rest bytes (skip_back rest) is) in
     let word : spelled rest u ≡ spelling bytes u = sym (spelled_at bytes before rest u is h.0) in
     by (fits bytes (stands_after before u.kind (spelled rest u)) (left rest u) us fault is' h.1 front back t more kind)
-    (λ s. subst (λ (x : Token). SignedBehind (stands_after before x.kind (spelling bytes x)) bytes front) same (subst (λ (ws : List ℕ). SignedBehind (stands_after before u.kind ws) bytes front) word s))
+    (λ s. subst (λ (x : Token). SignedBehind (stands_after before x.kind (spelling bytes x)) bytes front) same
+    (subst (λ (ws : List ℕ). SignedBehind (stands_after before u.kind ws) bytes front) word s))
   where
     by :
         (number_of bytes t < 2 ^ 63) ⊎ ((number_of bytes t ≡ 2 ^ 63) × SignedBehind (stands_after before u.kind (spelled rest u)) bytes front) →
-        (SignedBehind (stands_after before u.kind (spelled rest u)) bytes front → SignedBehind (stands_after before v.kind (spelling bytes v)) bytes front) →
+        (SignedBehind (stands_after before u.kind (spelled rest u)) bytes front →
+        SignedBehind (stands_after before v.kind (spelling bytes v)) bytes front) →
         (number_of bytes t < 2 ^ 63) ⊎ ((number_of bytes t ≡ 2 ^ 63) × SignedBehind (stands_after before v.kind (spelling bytes v)) bytes front)
     by (inl lt) f = inl lt
     by (inr x) f = inr (x.0, f x.1)
@@ -97,6 +104,7 @@ fits bytes before rest (u ∷ us) fault is h (v ∷ front) back t e kind =
 pub numbers_fit : NumbersFit
 numbers_fit bytes ts fault h front back t e kind = by (fits bytes Open bytes ts fault (drop_back 0 bytes (omega arith)) h front back t e kind)
   where
-    by : (number_of bytes t < 2 ^ 63) ⊎ ((number_of bytes t ≡ 2 ^ 63) × SignedBehind Open bytes front) → (number_of bytes t < 2 ^ 63) ⊎ ((number_of bytes t ≡ 2 ^ 63) × EndsWithSign bytes front)
+    by : (number_of bytes t < 2 ^ 63) ⊎ ((number_of bytes t ≡ 2 ^ 63) × SignedBehind Open bytes front) →
+        (number_of bytes t < 2 ^ 63) ⊎ ((number_of bytes t ≡ 2 ^ 63) × EndsWithSign bytes front)
     by (inl lt) = inl lt
     by (inr x) = inr (x.0, ends_signed bytes front x.1)

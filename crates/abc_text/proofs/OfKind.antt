@@ -63,7 +63,8 @@ alone-as : (bytes : List ℕ) (t : Token) (k : TokenKind) → StandsIn bytes t �
 alone-as bytes t k h e = (h.before, h.alone ∙ (let long = sym (length-spelling bytes t h) in λ i. Good (e i) (long i)))
 
 pub number_of-small : (bytes : List ℕ) (t : Token) → StandsIn bytes t → t.kind ≡ Number → number_of bytes t ≤ 2 ^ 63
-number_of-small bytes t h e = let a = alone-as bytes t Number h e in let fits = number-alone a.0 (spelling bytes t) a.1 in omega (arith, fits, greatest_small a.0)
+number_of-small bytes t h e = let a = alone-as bytes t Number h e in let fits = number-alone a.0 (spelling bytes t) a.1 in
+    omega (arith, fits, greatest_small a.0)
 
 -- ---- words
 run_passes : (p : ℕ → Bool) (bs : List ℕ) → take_while p bs ≡ bs → AllPass p bs
@@ -88,7 +89,8 @@ IfWord bytes (Good Symbol n) = Unit {0}
 
 word_is : (before : Before) (bytes : List ℕ) → IfWord bytes (next before bytes)
 unfolding IfWord
-word_is before = by_kind before IfWord tt (λ _ _ _. tt) (λ b bs h e. is_word (b ∷ bs) h e) (λ b bs h e. (omega arith, is_word bs h (omega (arith, e))))
+word_is before = by_kind before IfWord tt (λ _ _ _. tt) (λ b bs h e. is_word (b ∷ bs) h e)
+    (λ b bs h e. (omega arith, is_word bs h (omega (arith, e))))
     (λ _ _. tt) (λ _ _ _ _ _. tt) (λ _ _ _. tt) (λ _ _ _ _ _. tt)
 
 pub word-stands : (bytes : List ℕ) (t : Token) → StandsIn bytes t → t.kind ≡ Word → IsWord (spelling bytes t)
@@ -142,7 +144,8 @@ IfText bytes (Good Symbol n) = Unit {0}
 text_is : (before : Before) (bytes : List ℕ) → IfText bytes (next before bytes)
 unfolding IfText
 text_is before = by_kind before IfText tt (λ _ _ _. tt) (λ _ _ _. tt) (λ _ _ _. tt) (λ _ _. tt)
-    (λ b bs n e h. (omega arith, record { short = leb-true (length (text_value false bs)) LONGEST_TEXT h; bytes = printable false bs n e })) (λ _ _ _. tt) (λ _ _ _ _ _. tt)
+    (λ b bs n e h. (omega arith, record { short = leb-true (length (text_value false bs)) LONGEST_TEXT h; bytes = printable false bs n e }))
+    (λ _ _ _. tt) (λ _ _ _ _ _. tt)
 
 pub text-stands : (bytes : List ℕ) (t : Token) → StandsIn bytes t → t.kind ≡ Text → (0 < length (spelling bytes t)) × IsTextValue (text_at bytes t)
 unfolding IfText

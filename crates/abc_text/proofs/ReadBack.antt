@@ -50,7 +50,8 @@ variable before (b ∷ bs) h =
     let long = word_whole b bs h.0 h.1 in
     let short : nat_le (length (b ∷ bs)) MOST_NAME ≡ true = le-leb (length (b ∷ bs)) MOST_NAME h.2 in
     let one : length (b ∷ bs) + 1 ≡ length (36 ∷ (b ∷ bs)) = omega arith in
-    ap (λ (c : Bool). if c then (if nat_le (word_len (b ∷ bs)) MOST_NAME then Good Variable (word_len (b ∷ bs) + 1) else Bad LongName) else Bad BadByte) h.0
+    ap (λ (c : Bool). if c then (if nat_le (word_len (b ∷ bs)) MOST_NAME then Good Variable (word_len (b ∷ bs) + 1) else Bad LongName) else Bad
+    BadByte) h.0
     ∙ ap (λ (n : ℕ). if nat_le n MOST_NAME then Good Variable (n + 1) else Bad LongName) long
     ∙ ap (λ (c : Bool). if c then Good Variable (length (b ∷ bs) + 1) else Bad LongName) short
     ∙ ap (Good Variable) one

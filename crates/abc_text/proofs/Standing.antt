@@ -46,7 +46,8 @@ back_at place back bytes h e =
     let same : place ≡ h.0 = omega (arith, e, h.2, ap (length {A = ℕ}) h.1, length-drop {A = ℕ} h.0 bytes) in
     ap (λ (n : ℕ). drop n bytes) same ∙ sym h.1
 
-pub next_stands : (bytes : List ℕ) (before : Before) (rest : List ℕ) (t : Token) → IsBack rest bytes → IsNext (length bytes) before rest t → StandsIn bytes t
+pub next_stands : (bytes : List ℕ) (before : Before) (rest : List ℕ) (t : Token) → IsBack rest bytes → IsNext (length bytes) before rest t →
+    StandsIn bytes t
 next_stands bytes before rest t back here =
     let w = good_within before (skip rest) t.kind t.len here.token in
     let at = back_at t.place (skip rest) bytes (back_back (skip rest) rest bytes (skip_back rest) back) here.place in

@@ -7,7 +7,8 @@ use Rattle.abc_parse.proofs.whole.meant.Goals as goal
 
 pub lexemes_of-requires-clause-numbered : goal.lexemes_of-requires-clause-numbered
 lexemes_of-requires-clause-numbered c = λ k d lt.
-    subst (λ (ws : List (List ℕ)). HasName ws (named c.args.bytes.now (slice_index_or c.args.tokens.now k d))) (sym c.in_ok-known.ensures) (named_have_numbers c.args.names.now c.args.bytes.now c.args.tokens.now k d lt)
+    subst (λ (ws : List (List ℕ)). HasName ws (named c.args.bytes.now (slice_index_or c.args.tokens.now k d))) (sym c.in_ok-known.ensures)
+    (named_have_numbers c.args.names.now c.args.bytes.now c.args.tokens.now k d lt)
 
 pub lexemes_of-requires-clause-few : goal.lexemes_of-requires-clause-few
 lexemes_of-requires-clause-few c =

@@ -18,11 +18,15 @@ returns-in-Ok-clause-different c =
 pub returns-in-Ok-clause-exact : goal.returns-in-Ok-clause-exact
 returns-in-Ok-clause-exact c = λ place cause none.
     let names = c.as_slice.result.now in
-    let b : BeginsWithPred names c.args.bytes.now (pred_of c.in-Ok-Pred.pred) c.in-Ok-Pred.size (names ++ c.in-Ok-Pred.more) = rw c.in-Ok-Pred.field-0-is at c.in-Ok-Pred.ensures in
-    fronts_are_one.apart names c.args.bytes.now _ _ _ place cause b (subst (λ (ws : List (List ℕ)). BeginsWithNoPred ws c.args.bytes.now place cause) (sym c.as_slice.ensures) none)
+    let b : BeginsWithPred names c.args.bytes.now (pred_of c.in-Ok-Pred.pred) c.in-Ok-Pred.size (names ++ c.in-Ok-Pred.more) =
+    rw c.in-Ok-Pred.field-0-is at c.in-Ok-Pred.ensures in
+    fronts_are_one.apart names c.args.bytes.now _ _ _ place cause b
+    (subst (λ (ws : List (List ℕ)). BeginsWithNoPred ws c.args.bytes.now place cause) (sym c.as_slice.ensures) none)
 
 pub returns-in-Ok-Refused-clause-exact : goal.returns-in-Ok-Refused-clause-exact
 returns-in-Ok-Refused-clause-exact c = λ place cause none.
     let names = c.as_slice.result.now in
-    let b : BeginsWithNoPred names c.args.bytes.now c.in-Ok-Refused.place c.in-Ok-Refused.cause = rw c.in-Ok-Refused.field-0-is at c.in-Ok-Refused.ensures in
-    fronts_are_one.refused names c.args.bytes.now _ place _ cause b (subst (λ (ws : List (List ℕ)). BeginsWithNoPred ws c.args.bytes.now place cause) (sym c.as_slice.ensures) none)
+    let b : BeginsWithNoPred names c.args.bytes.now c.in-Ok-Refused.place c.in-Ok-Refused.cause =
+    rw c.in-Ok-Refused.field-0-is at c.in-Ok-Refused.ensures in
+    fronts_are_one.refused names c.args.bytes.now _ place _ cause b
+    (subst (λ (ws : List (List ℕ)). BeginsWithNoPred ws c.args.bytes.now place cause) (sym c.as_slice.ensures) none)
