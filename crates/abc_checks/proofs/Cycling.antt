@@ -10,7 +10,7 @@ use Rattle.abc_term.specs.Standing.{process_of, definitions_of}
 use Rattle.abc_term.specs.Calls.{Reaches}
 use Rattle.abc_checks.specs.Parts.{holds_par}
 use Rattle.abc_checks.specs.Graphs.{Says, SaysWhoCycles}
-use Rattle.abc_checks.specs.Sites.{AtSite, IsFirstSite, ComesBefore}
+use Rattle.abc_checks.specs.Sites.{AtSite, IsFirstSite}
 use Rattle.abc_checks.specs.declared.causes.Site.{Site}
 use Rattle.abc_checks.specs.declared.causes.Site.TheVariants.{Definition as DefinitionAt, Component as ComponentAt, Whole}
 

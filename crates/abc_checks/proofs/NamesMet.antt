@@ -3,9 +3,8 @@ use Rattle.std.proofs.Common.{◌≡◌, ◌++◌, ◌||◌, ℕ, suc, Bool, tru
 use Rattle.std.proofs.lemmas.List.{map-append, map-id}
 use Prim.Native.Nat.compare
 use Rattle.std.proofs.lemmas.Bool.Decides.{nat_tests}
-use Rattle.std.specs.List.{list_any}
 use Rattle.abc_pred.specs.declared.names.Name.{Name}
-use Rattle.abc_pred.specs.Maps.{lists, same_name}
+use Rattle.abc_pred.specs.Maps.{same_name}
 use Rattle.abc_term.specs.declared.terms.Definition.{Definition}
 use Rattle.abc_term.specs.Standing.{definitions_of}
 use Rattle.abc_term.specs.Guarded.{defines}

@@ -1,5 +1,5 @@
 -- The worked examples, computed.
-use Rattle.std.proofs.Common.{◌<◌, ℕ, [], refl, lit<, lit≤, arith}
+use Rattle.std.proofs.Common.{◌<◌, [], refl, lit<, lit≤, arith}
 use Rattle.abc_checks.specs.Measures.{width_of, IsLeastSolution}
 use Rattle.abc_checks.specs.Worked.{each, ParsAreFound, RepeatsAreFound, WidthsAreCounted, WidthsAreCapped, WidthsHaveALimit, BreadthsAreCounted, BreadthsAreCapped, BreadthsHaveALimit, ComponentsHaveALimit}
 

@@ -1,9 +1,8 @@
 -- What is built from a program stays so as it moves.
-use Rattle.std.proofs.Common.{◌≡◌, ◌⊎◌, ℕ, zero, suc, Bool, true, false, List, [], ◌∷◌, ◌++◌, refl, sym, ◌∙◌, ap, subst, inl, inr, slice_get, Some, if◌then◌else◌}
+use Rattle.std.proofs.Common.{ℕ, zero, suc, List, [], ◌++◌, refl, sym, ◌∙◌, subst, inl, inr}
 use Rattle.std.specs.List.{zip}
 use Rattle.abc_pred.specs.declared.names.Name.{Name}
-use Rattle.abc_pred.specs.Maps.{Entries, same_name}
-use Rattle.abc_term.specs.declared.terms.Definition.{Definition}
+use Rattle.abc_pred.specs.Maps.{Entries}
 use Rattle.abc_term.specs.declared.terms.Program.{Program}
 use Rattle.abc_term.specs.Processes.{Process, Nil, Output, Input, When, Choice, Par, Call, Definitions, body_of}
 use Rattle.abc_term.specs.Substitution.{Values, put, outside}

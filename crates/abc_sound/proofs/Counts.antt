@@ -1,7 +1,7 @@
 -- What a sound component can do: few moves, calls that have definitions and come to an end.
-use Rattle.std.proofs.Common.{◌≡◌, ◌⊎◌, ◌≤◌, ◌++◌, ◌*◌, ℕ, zero, suc, Bool, true, false, IsTrue, List, [], sym, ◌∙◌, ap, subst, inl, inr, arith, if◌then◌else◌}
+use Rattle.std.proofs.Common.{◌≡◌, ◌≤◌, ◌*◌, ℕ, zero, suc, Bool, true, false, List, [], sym, ◌∙◌, ap, subst, inl, inr, arith, if◌then◌else◌}
 use Rattle.abc_pred.specs.declared.names.Name.{Name}
-use Rattle.abc_pred.specs.Maps.{Entries, lists, same_name}
+use Rattle.abc_pred.specs.Maps.{Entries, lists}
 use Rattle.abc_pred.specs.Meaning.{sat}
 use Rattle.abc_term.specs.declared.terms.Program.{Program}
 use Rattle.abc_term.specs.Processes.{Process, Nil, Output, Input, When, Choice, Par, Call, Definitions, body_of}

@@ -1,7 +1,7 @@
 -- Who is listed as a hearer hears, at the place that it is listed with.
-use Rattle.std.proofs.Common.{◌≡◌, ◌≢◌, ℕ, zero, suc, ◌+◌, ◌==◌, ◌<◌, ◌≤◌, Bool, false, true, if◌then◌else◌, List, [], ◌∷◌, length, slice_get, Option, Some, None, refl, sym, ap, subst, ◌∙◌, arith}
+use Rattle.std.proofs.Common.{◌≡◌, ◌≢◌, ℕ, zero, suc, ◌+◌, ◌==◌, ◌<◌, ◌≤◌, Bool, false, if◌then◌else◌, List, [], ◌∷◌, length, slice_get, Option, Some, None, refl, ap, subst, ◌∙◌, arith}
 use Rattle.std.proofs.lemmas.Bool.{eq-eqb, ne_eqb}
-use Rattle.abc_term.specs.Processes.{Definitions, Component, System}
+use Rattle.abc_term.specs.Processes.{Definitions, System}
 use Rattle.abc_term.specs.Hearing.{Hears}
 use Rattle.abc_term.specs.Systems.{place_in, AreHearers, StepAt}
 use Rattle.abc_term.specs.Laws.{ListedHear, ListedRise, SenderExists}

@@ -2,7 +2,7 @@
 -- def K = (1) @ (tt) . K + when (tt) L;
 -- def L = ? (tt) () . { K | L } | 0;
 -- def M = L | when (ff) M;
-use Rattle.std.specs.Prelude.{◌≡◌, List, [], ◌∷◌}
+use Rattle.std.specs.Prelude.{◌≡◌, [], ◌∷◌}
 use Rattle.abc_pred.specs.declared.names.Name.{Name}
 use Rattle.abc_pred.specs.Terms.{True, False}
 use Rattle.abc_term.specs.Processes.{Process, Nil, Output, Input, When, Choice, Par, Call, Definitions}
