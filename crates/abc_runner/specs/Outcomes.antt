@@ -14,11 +14,11 @@ abbrev pub cut_short : Status → ℕ → Status
 cut_short NoMemory written = NoMemory
 cut_short _ written = WriteFault written
 
--- The text `due` of the status `whole` was due to a sink. It was written whole, and the status is that one; or the sink's
--- count of faults rose, a proper front of the text was written, and the status says how much.
+-- The text `due` of the status `whole` was due to a sink. It was written whole, the sink's count of faults is as it was, and
+-- the status is that one; or the count rose, a proper front of the text was written, and the status says how much.
 abbrev pub Ends : Status → List ℕ → Status → ℕ → ℕ → Option (List ℕ) → Option (List ℕ) → Type 0
 Ends whole due status faults faults' told told' =
-    ((status ≡ whole) × Appends told told' due)
+    ((status ≡ whole) × (faults' ≡ faults) × Appends told told' due)
     ⊎ ((written : ℕ) × (status ≡ cut_short whole written) × Rose faults faults' × (written < length due) × Appends told told' (take written due))
 
 -- the line of a refusal was due
@@ -39,6 +39,18 @@ IsTextStatus Done = ⊤
 IsTextStatus Unbuilt = ⊤
 IsTextStatus NoMemory = ⊤
 IsTextStatus _ = ⊥
+
+-- the statuses of a call of `solo` that come of its text, which was read whole
+abbrev pub IsOfText : Status → Type 0
+IsOfText Done = ⊤
+IsOfText Unbuilt = ⊤
+IsOfText _ = ⊥
+
+-- the statuses under which the sink may have failed
+abbrev pub IsCut : Status → Type 0
+IsCut (WriteFault written) = ⊤
+IsCut NoMemory = ⊤
+IsCut _ = ⊥
 
 -- a fact of the bytes that were written before a write fault
 abbrev pub IfWriteFault : Status → (ℕ → Type 0) → Type 0

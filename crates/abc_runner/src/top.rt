@@ -5,7 +5,7 @@ ghost use Rattle.abc_io.specs.Whole.{HasRead};
 ghost use Rattle.abc_runner.specs.Commands.{command_in};
 ghost use Rattle.abc_runner.specs.Statuses.{line_of};
 ghost use Rattle.abc_runner.specs.declared.answer.Answer.{Answer};
-ghost use Rattle.abc_runner.specs.Outcomes.{Ends, EndsAs, IfWriteFault, IsRefusal, IsSolo, IsTextStatus, cut_short};
+ghost use Rattle.abc_runner.specs.Outcomes.{Ends, EndsAs, IfWriteFault, IsCut, IsRefusal, IsSolo, IsTextStatus, cut_short};
 ghost use Rattle.abc_runner.specs.Answers.{whole_of, due_of, IsAnswer, IsSoloAnswer, IsTextAnswer};
 
 use crate::answer::Answer;
@@ -53,11 +53,18 @@ pub fn run<S: Source, K: Sink>(
         (K.fault_count sink.old) (K.fault_count sink.new) (K.told sink.old) (K.told sink.new))) }
     ensures done { result.status ≡ Status.Done
         → IsSolo (command_in words.now) × IsAtEnd (S.left source.new) }
+    ensures unbuilt { result.status ≡ Status.Unbuilt
+        → IsSolo (command_in words.now) → IsAtEnd (S.left source.new) }
+    ensures source_sound { (S.fault_count source.new ≡ S.fault_count source.old)
+        ⊎ (IsSolo (command_in words.now) × EndsAs Status.ReadFault result.status
+        (K.fault_count sink.old) (K.fault_count sink.new) (K.told sink.old) (K.told sink.new)) }
 
     // The sink. What was due is that of an answer that the words and the source give: the line of
     // a refusal, or a text.
     ensures line { IsRefusal result.status
         → Appends (K.told sink.old) (K.told sink.new) (line_of result.status) }
+    ensures sink_sound { IsCut result.status
+        ⊎ (K.fault_count sink.new ≡ K.fault_count sink.old) }
     ensures write_fault { IfWriteFault result.status (λ written.
         Rose (K.fault_count sink.old) (K.fault_count sink.new)
         × (answer : Answer)
