@@ -1,15 +1,15 @@
 -- What a table says of the definitions that are on a cycle.
 use Rattle.std.proofs.Common.{◌≡◌, ◌⊎◌, ◌<◌, ◌↔◌, ◌+◌, ◌++◌, ℕ, Bool, false, IsTrue, List, [], ◌∷◌, length, inl, inr, get_or, slice_get, Option, Some, None, refl, sym, ◌∙◌, ap, subst, arith, length-append}
-use Rattle.std.specs.Prelude.{IsSomeAnd, slice_index_or}
+use Rattle.std.specs.Prelude.{true, Result, Ok, Err, IfOk, IsSomeAnd, slice_index_or}
 use Rattle.std.proofs.lemmas.Option.{slice_get_cases}
 use Rattle.std.proofs.lemmas.List.{get_or_append_left, get_or-append-add}
-use Rattle.abc_pred.specs.declared.names.Name.{Name}
 use Rattle.abc_term.specs.declared.terms.Definition.{Definition}
-use Rattle.abc_term.specs.Processes.{Process}
 use Rattle.abc_term.specs.Standing.{process_of, definitions_of}
-use Rattle.abc_term.specs.Calls.{Reaches}
+use Rattle.abc_term.specs.Calls.{called, Reaches}
 use Rattle.abc_checks.specs.Parts.{holds_par}
-use Rattle.abc_checks.specs.Graphs.{Says, SaysWhoCycles}
+use Rattle.abc_checks.specs.Graphs.{counts_behind, Says, IsBadCycle, SaysWhoCycles}
+use Rattle.abc_checks.specs.declared.calls.Calls.{Calls}
+use Rattle.abc_checks.specs.declared.calls.Calls.TheVariants.{All, Unguarded}
 use Rattle.abc_checks.specs.Sites.{AtSite, IsFirstSite}
 use Rattle.abc_checks.specs.declared.causes.Site.{Site}
 use Rattle.abc_checks.specs.declared.causes.Site.TheVariants.{Definition as DefinitionAt, Component as ComponentAt, Whole}
@@ -54,54 +54,43 @@ module _ {A : Type 0} (Holds : A → Type 0) (items : List A) where
           | inr past ↦ absurd (subst (λ (o : Option A). IsSomeAnd o Holds) past.1 h)
         ]
 
-both : {A : Type 0} (P Q : A → Type 0) (o : Option A) → IsSomeAnd o P → IsSomeAnd o Q → IsSomeAnd o (λ x. P x × Q x)
-both P Q None p q = p
-both P Q (Some x) p q = (p, q)
-
-one_of : {A : Type 0} (P Q : A → Type 0) (o : Option A) → IsSomeAnd o (λ x. P x × Q x) → IsSomeAnd o P × IsSomeAnd o Q
-one_of P Q None h = (h, h)
-one_of P Q (Some x) h = h
-
 first_site_alike : (H G : Site → Type 0) → ((s : Site) → H s ↔ G s) → (o : Option Site) → IsFirstSite H o → IsFirstSite G o
 first_site_alike H G same None none = λ s g. none s ((same s).1 g)
 first_site_alike H G same (Some s) first = ((same s).0 first.0, λ t before g. first.1 t before ((same t).1 g))
 
-module _ (called_by : Process → List Name) (ds : List Definition) (components : ℕ) (table : List Bool) (says : SaysWhoCycles called_by ds table) where
-  abbrev Cycles : Definition → Type 0
-  Cycles d = Reaches called_by (definitions_of ds) d.name d.name
+module _ (counted : Calls) (ds : List Definition) (components : ℕ) (table : List Bool) (says : SaysWhoCycles counted ds table) where
+  abbrev MarkedAt : Site → Type 0
+  MarkedAt = AtSite (length ds) components (λ i. IsTrue (slice_index_or table i false)) (λ i. ⊥)
 
-  abbrev Marked : ℕ → Type 0
-  Marked i = IsTrue (slice_index_or table i false)
+  abbrev CyclesAt : Site → Type 0
+  CyclesAt = AtSite (length ds) components (λ i. IsSomeAnd (slice_get ds i) (IsBadCycle counted ds)) (λ i. ⊥)
 
-  abbrev Nowhere : ℕ → Type 0
-  Nowhere i = ⊥
-
-  marked_cycles : (s : Site) → AtSite (length ds) components Marked Nowhere s ↔ AtSite (length ds) components (λ i. IsSomeAnd (slice_get ds i) Cycles) Nowhere s
-  marked_cycles (DefinitionAt i) = (λ h. (h.0, says_holds Cycles ds table says i h.0 h.1), λ h. (h.0, holds_says Cycles ds table says i h.1))
+  marked_cycles : (s : Site) → MarkedAt s ↔ CyclesAt s
+  marked_cycles (DefinitionAt i) = (λ h. (h.0, says_holds (IsBadCycle counted ds) ds table says i h.0 h.1), λ h. (h.0, holds_says (IsBadCycle counted ds) ds table says i h.1))
   marked_cycles (ComponentAt i) = (λ h. h, λ h. h)
   marked_cycles Whole = (λ h. h, λ h. h)
 
-  -- the first definition that the table marks is the first that reaches itself
-  pub cycling_site : (o : Option Site) → IsFirstSite (AtSite (length ds) components Marked Nowhere) o → IsFirstSite (AtSite (length ds) components (λ i. IsSomeAnd (slice_get ds i) Cycles) Nowhere) o
-  cycling_site o first = first_site_alike (AtSite (length ds) components Marked Nowhere) (AtSite (length ds) components (λ i. IsSomeAnd (slice_get ds i) Cycles) Nowhere) marked_cycles o first
+  -- the first definition that the table marks is the first on such a cycle
+  pub cycling_site : (o : Option Site) → IsFirstSite MarkedAt o → IsFirstSite CyclesAt o
+  cycling_site o first = first_site_alike MarkedAt CyclesAt marked_cycles o first
 
-  abbrev HoldsPar : Definition → Type 0
-  HoldsPar d = IsTrue (holds_par (process_of d.body))
+-- ---- For the code: what one search says
 
-  abbrev MarkedPar : ℕ → Type 0
-  MarkedPar i = Marked i × IsSomeAnd (slice_get ds i) HoldsPar
+module _ {E : Type 0} (ds : List Definition) (d : Definition) (r : Result Bool E) where
+  -- the answer says whether d reaches itself by the calls that count
+  abbrev Answers : Calls → Type 0
+  Answers counted = IfOk r (λ b. IsTrue b ↔ Reaches (called (counts_behind counted)) (definitions_of ds) d.name d.name)
 
-  abbrev ParCycles : ℕ → Type 0
-  ParCycles i = IsSomeAnd (slice_get ds i) (λ d. HoldsPar d × Cycles d)
+  -- it says whether d is on a cycle that it may not be on
+  abbrev SaysBad : Calls → Type 0
+  SaysBad counted = IfOk r (λ b. IsTrue b ↔ IsBadCycle counted ds d)
 
-  marked_par : (s : Site) → AtSite (length ds) components MarkedPar Nowhere s ↔ AtSite (length ds) components ParCycles Nowhere s
-  marked_par (DefinitionAt i) = (
-    λ h. (h.0, both HoldsPar Cycles (slice_get ds i) h.1.1 (says_holds Cycles ds table says i h.0 h.1.0)),
-    λ h. let each = one_of HoldsPar Cycles (slice_get ds i) h.1 in (h.0, (holds_says Cycles ds table says i each.1, each.0)),
-  )
-  marked_par (ComponentAt i) = (λ h. h, λ h. h)
-  marked_par Whole = (λ h. h, λ h. h)
+  pub unguarded_bad : (counted : Calls) → counted ≡ Unguarded → Answers counted → SaysBad counted
+  unguarded_bad counted e h = subst SaysBad (sym e) (subst Answers e h)
 
-  -- the same of those that hold `|`
-  pub parallel_site : (o : Option Site) → IsFirstSite (AtSite (length ds) components MarkedPar Nowhere) o → IsFirstSite (AtSite (length ds) components ParCycles Nowhere) o
-  parallel_site o first = first_site_alike (AtSite (length ds) components MarkedPar Nowhere) (AtSite (length ds) components ParCycles Nowhere) marked_par o first
+with_par : {E : Type 0} (ds : List Definition) (d : Definition) (r : Result Bool E) → true ≡ holds_par (process_of d.body) → Answers ds d r All → SaysBad ds d r All
+with_par ds d (Ok b) par h = (λ t. (sym par, h.0 t), λ p. h.1 p.1)
+with_par ds d (Err e) par h = h
+
+pub parallel_bad : {E : Type 0} (ds : List Definition) (d : Definition) (r : Result Bool E) (counted : Calls) → counted ≡ All → true ≡ holds_par (process_of d.body) → Answers ds d r counted → SaysBad ds d r counted
+parallel_bad ds d r counted e par h = subst (SaysBad ds d r) (sym e) (with_par ds d r par (subst (Answers ds d r) e h))

@@ -4,8 +4,8 @@ use Rattle.abc_pred.specs.declared.names.Name.{Name}
 use Rattle.abc_term.specs.Processes.{Process}
 use Rattle.abc_term.specs.declared.terms.Definition.{Definition}
 use Rattle.abc_term.specs.Standing.{process_of, definitions_of}
-use Rattle.abc_term.specs.Calls.{Reaches}
-use Rattle.abc_checks.specs.Parts.{place_of}
+use Rattle.abc_term.specs.Calls.{calls, unguarded_calls, Reaches}
+use Rattle.abc_checks.specs.Parts.{place_of, holds_par}
 use Rattle.abc_checks.specs.declared.calls.Calls.{Calls}
 use Rattle.abc_checks.specs.declared.calls.Calls.TheVariants.{All, Unguarded}
 use Rattle.abc_checks.specs.declared.search.Search as held
@@ -37,9 +37,14 @@ pub record Says {A : Type 0} (Holds : A → Type 0) (items : List A) (count : �
   pub size : length table ≡ count
   pub right : (i : ℕ) (x : A) → i < count → slice_get items i ≡ Some x → IsTrue (slice_index_or table i false) ↔ Holds x
 
--- Of each definition, whether it reaches itself.
-abbrev pub SaysWhoCycles : (Process → List Name) → List Definition → List Bool → Type 0
-SaysWhoCycles called_by ds table = Says (λ d. Reaches called_by (definitions_of ds) d.name d.name) ds (length ds) table
+-- The definition reaches itself by unguarded calls; or, where all calls count, it reaches itself and its body holds `|`.
+abbrev pub IsBadCycle : Calls → List Definition → Definition → Type 0
+IsBadCycle Unguarded ds d = Reaches unguarded_calls (definitions_of ds) d.name d.name
+IsBadCycle All ds d = IsTrue (holds_par (process_of d.body)) × Reaches calls (definitions_of ds) d.name d.name
+
+-- Of each definition, whether it does.
+abbrev pub SaysWhoCycles : Calls → List Definition → List Bool → Type 0
+SaysWhoCycles counted ds table = Says (IsBadCycle counted ds) ds (length ds) table
 
 -- A search: which nodes are marked, and the marked ones whose arrows were not followed yet.
 pub record Search : Type 0 where

@@ -5,12 +5,12 @@ ghost use Rattle.abc_checks.specs.Facts.{DoubleName, UnknownName, OpenVariable, 
 
 use crate::calls::Calls;
 use crate::causes::{CheckRefusal, Site};
-use crate::cycles::find_cycles;
+use crate::cycles::{Marked, bad_cycles};
 use crate::limits::MOST_COMPONENTS;
 use crate::measures::{Measure, table};
 use crate::places::Places;
 use crate::sites::first_site;
-use crate::{counts, cycles, facts};
+use crate::{counts, facts};
 use abc_cause::CheckCause;
 use abc_term::Program;
 use abc_value::NoMemory;
@@ -23,8 +23,8 @@ fn unguarded(alloc: Global, places: &Places<'_>) -> Result<Option<Site>, NoMemor
     ensures { IfOk result (IsFirstSite (Unguarded places.now.program.now)) }
 {
     let program = places.program;
-    let cycles = find_cycles(alloc, Calls::Unguarded, places)?;
-    Ok(first_site(&cycles::Unguarded(&cycles), program))
+    let cycles = bad_cycles(alloc, Calls::Unguarded, places)?;
+    Ok(first_site(&Marked(&cycles), program))
 }
 
 /// The first site at which a definition that holds `|` reaches itself.
@@ -34,12 +34,8 @@ fn parallel_cycle(alloc: Global, places: &Places<'_>) -> Result<Option<Site>, No
     ensures { IfOk result (IsFirstSite (ParallelCycle places.now.program.now)) }
 {
     let program = places.program;
-    let cycles = find_cycles(alloc, Calls::All, places)?;
-    let fact = cycles::ParallelCycle {
-        program: &*program,
-        cycles: &cycles,
-    };
-    Ok(first_site(&fact, program))
+    let cycles = bad_cycles(alloc, Calls::All, places)?;
+    Ok(first_site(&Marked(&cycles), program))
 }
 
 /// The first component that is too wide.
