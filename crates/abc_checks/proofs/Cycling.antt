@@ -19,7 +19,8 @@ module _ {A : Type 0} (Holds : A → Type 0) (items : List A) where
   says_none = record { size = refl; right = λ i x lt. absurd (omega arith) }
 
   -- one more item
-  pub says_more : (n : ℕ) (table : List Bool) (x : A) (b : Bool) → slice_get items n ≡ Some x → (IsTrue b ↔ Holds x) → Says Holds items n table → Says Holds items (n + 1) (table ++ b ∷ [])
+  pub says_more : (n : ℕ) (table : List Bool) (x : A) (b : Bool) → slice_get items n ≡ Some x → (IsTrue b ↔ Holds x) → Says Holds items n table
+      → Says Holds items (n + 1) (table ++ b ∷ [])
   says_more n table x b at is says = record {
     size = let size = says.size in let more = length-append table (b ∷ []) in omega arith;
     right = λ i y lt there.
@@ -31,7 +32,8 @@ module _ {A : Type 0} (Holds : A → Type 0) (items : List A) where
               subst (λ (c : Bool). IsTrue c ↔ Holds y) (sym same) (says.right i y before there)
           | inr last ↦
               let end : length table + 0 ≡ i = omega arith in
-              let same : get_or (table ++ b ∷ []) i false ≡ b = ap (λ (k : ℕ). get_or (table ++ b ∷ []) k false) (sym end) ∙ get_or-append-add table (b ∷ []) 0 false in
+              let same : get_or (table ++ b ∷ []) i false ≡ b =
+              ap (λ (k : ℕ). get_or (table ++ b ∷ []) k false) (sym end) ∙ get_or-append-add table (b ∷ []) 0 false in
               let there_too : slice_get items n ≡ Some y = ap (slice_get items) (sym last) ∙ there in
               let one : x ≡ y = cc in
               subst (λ (c : Bool). IsTrue c ↔ Holds y) (sym same) (subst (λ (z : A). IsTrue b ↔ Holds z) one is)
@@ -66,7 +68,10 @@ module _ (counted : Calls) (ds : List Definition) (components : ℕ) (table : Li
   CyclesAt = AtSite (length ds) components (λ i. IsSomeAnd (slice_get ds i) (IsBadCycle counted ds)) (λ i. ⊥)
 
   marked_cycles : (s : Site) → MarkedAt s ↔ CyclesAt s
-  marked_cycles (DefinitionAt i) = (λ h. (h.0, says_holds (IsBadCycle counted ds) ds table says i h.0 h.1), λ h. (h.0, holds_says (IsBadCycle counted ds) ds table says i h.1))
+  marked_cycles (DefinitionAt i) = (
+    λ h. (h.0, says_holds (IsBadCycle counted ds) ds table says i h.0 h.1),
+    λ h. (h.0, holds_says (IsBadCycle counted ds) ds table says i h.1),
+  )
   marked_cycles (ComponentAt i) = (λ h. h, λ h. h)
   marked_cycles Whole = (λ h. h, λ h. h)
 
@@ -88,9 +93,11 @@ module _ {E : Type 0} (ds : List Definition) (d : Definition) (r : Result Bool E
   pub unguarded_bad : (counted : Calls) → counted ≡ Unguarded → Answers counted → SaysBad counted
   unguarded_bad counted e h = subst SaysBad (sym e) (subst Answers e h)
 
-with_par : {E : Type 0} (ds : List Definition) (d : Definition) (r : Result Bool E) → true ≡ holds_par (process_of d.body) → Answers ds d r All → SaysBad ds d r All
+with_par : {E : Type 0} (ds : List Definition) (d : Definition) (r : Result Bool E) → true ≡ holds_par (process_of d.body) → Answers ds d r All
+    → SaysBad ds d r All
 with_par ds d (Ok b) par h = (λ t. (sym par, h.0 t), λ p. h.1 p.1)
 with_par ds d (Err e) par h = h
 
-pub parallel_bad : {E : Type 0} (ds : List Definition) (d : Definition) (r : Result Bool E) (counted : Calls) → counted ≡ All → true ≡ holds_par (process_of d.body) → Answers ds d r counted → SaysBad ds d r counted
+pub parallel_bad : {E : Type 0} (ds : List Definition) (d : Definition) (r : Result Bool E) (counted : Calls) → counted ≡ All
+    → true ≡ holds_par (process_of d.body) → Answers ds d r counted → SaysBad ds d r counted
 parallel_bad ds d r counted e par h = subst (SaysBad ds d r) (sym e) (with_par ds d r par (subst (Answers ds d r) e h))

@@ -25,7 +25,8 @@ here ds d c e = record {
   body = ap (λ (b : Bool). if b then process_of d.body else body_of (definitions_of ds) c) e;
 }
 
-skipped : (ds : List Definition) (d : Definition) (c : Name) → same_name d.name c ≡ false → body_of (definitions_of (d ∷ ds)) c ≡ body_of (definitions_of ds) c
+skipped : (ds : List Definition) (d : Definition) (c : Name) → same_name d.name c ≡ false
+    → body_of (definitions_of (d ∷ ds)) c ≡ body_of (definitions_of ds) c
 skipped ds d c e = ap (λ (b : Bool). if b then process_of d.body else body_of (definitions_of ds) c) e
 
 further : (ds : List Definition) (d : Definition) (c : Name) → same_name d.name c ≡ false → BodyOf ds c → BodyOf (d ∷ ds) c

@@ -61,20 +61,24 @@ module _ (defs : Definitions) where
     all_apart c [] h = tt
     all_apart c (v ∷ V) h = (apart c v h.0.1 (same_name c v) refl, all_apart c V h.1)
 
-    each_defined : (c : Name) (V : List Name) → AllByRecursion (Leads c) V → IsTrue (defines defs c) → (q : Name) → list_any (same_name q) (c ∷ V) ≡ true → IsTrue (defines defs q)
+    each_defined : (c : Name) (V : List Name) → AllByRecursion (Leads c) V → IsTrue (defines defs c) → (q : Name)
+        → list_any (same_name q) (c ∷ V) ≡ true → IsTrue (defines defs q)
     each_defined c V h k q at =
         elim (or_cases (same_name q c) (list_any (same_name q) V) at) [ inl e ↦ same_defined q c e k | inr e ↦ all_defined c V h q e ]
 
-    no_longer : (c : Name) (V : List Name) → IsDistinct same_name V → AllByRecursion (Leads c) V → IsTrue (defines defs c) → suc (length V) ≤ length defs
+    no_longer : (c : Name) (V : List Name) → IsDistinct same_name V → AllByRecursion (Leads c) V → IsTrue (defines defs c)
+        → suc (length V) ≤ length defs
     no_longer c V d h k =
         let fits = length-le_from_is_member name_laws (c ∷ V) (names defs) (IsDistinct-cons same_name c V (all_apart c V h) d)
         (λ q at. sym (listed defs q) ∙ each_defined c V h k q at) in
         let e = length-names defs in omega arith
 
-    ends : (depth : ℕ) (V : List Name) (c : Name) → IsDistinct same_name V → AllByRecursion (Leads c) V → IsTrue (defines defs c) → length defs ≤ depth + length V → CallEnds depth defs c
+    ends : (depth : ℕ) (V : List Name) (c : Name) → IsDistinct same_name V → AllByRecursion (Leads c) V → IsTrue (defines defs c)
+        → length defs ≤ depth + length V → CallEnds depth defs c
     ends zero V c d h k le = let lt = no_longer c V d h k in absurd (omega arith)
     ends (suc depth) V c d h k le = λ e s.
-        ends depth (c ∷ V) e (IsDistinct-cons same_name c V (all_apart c V h) d) ((k, at_once s), onward c e V s h) (guarded.defined c e s) (omega arith)
+        ends depth (c ∷ V) e (IsDistinct-cons same_name c V (all_apart c V h) d)
+        ((k, at_once s), onward c e V s h) (guarded.defined c e s) (omega arith)
 
 no_names : IsDistinct same_name []
 unfolding IsDistinct

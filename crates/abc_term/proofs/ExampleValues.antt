@@ -9,7 +9,11 @@ pub old_is_read : OldIsRead
 old_is_read = record { exists = lit< tt; hearers = tt; moves = (((refl, refl, refl, refl), refl), tt) }
 
 pub value_is_put : ValueIsPut
-value_is_put = record { exists = lit< tt; hearers = (lit≤ tt, lit< tt, (λ e. cc), tt); moves = (((refl, refl, refl, refl), refl), (((refl, refl, refl, refl), refl), tt)) }
+value_is_put = record {
+  exists = lit< tt;
+  hearers = (lit≤ tt, lit< tt, (λ e. cc), tt);
+  moves = (((refl, refl, refl, refl), refl), (((refl, refl, refl, refl), refl), tt));
+}
 
 pub is_passed_on : IsPassedOn
 is_passed_on = record { exists = lit< tt; hearers = tt; moves = ((refl, refl), (((refl, (refl, refl, refl, refl)), refl), tt)) }
@@ -22,7 +26,15 @@ only_same_length = record {
 }
 
 pub outer_stops_there : OuterStopsThere
-outer_stops_there = record { exists = lit< tt; hearers = (lit≤ tt, lit< tt, (λ e. cc), tt); moves = (((refl, refl, refl, refl), refl), (((refl, refl, refl, refl), refl), tt)) }
+outer_stops_there = record {
+  exists = lit< tt;
+  hearers = (lit≤ tt, lit< tt, (λ e. cc), tt);
+  moves = (((refl, refl, refl, refl), refl), (((refl, refl, refl, refl), refl), tt));
+}
 
 pub inner_is_its_own : InnerIsItsOwn
-inner_is_its_own = record { exists = lit< tt; hearers = (lit≤ tt, lit< tt, (λ e. cc), tt); moves = (((refl, refl, refl, refl), refl), (((refl, refl, refl, refl), refl), tt)) }
+inner_is_its_own = record {
+  exists = lit< tt;
+  hearers = (lit≤ tt, lit< tt, (λ e. cc), tt);
+  moves = (((refl, refl, refl, refl), refl), (((refl, refl, refl, refl), refl), tt));
+}

@@ -14,7 +14,8 @@ record Listed (sender count low : ℕ) (heard : List (ℕ × ℕ)) (h : ℕ × �
   other : h.0 ≢ sender
   found : place_in heard h.0 ≡ Some h.1
 
-first_listed : (sender count low : ℕ) (heard : List (ℕ × ℕ)) (h : ℕ × ℕ) → low ≤ h.0 → h.0 < count → h.0 ≢ sender → Listed sender count low (h ∷ heard) h
+first_listed : (sender count low : ℕ) (heard : List (ℕ × ℕ)) (h : ℕ × ℕ) → low ≤ h.0 → h.0 < count → h.0 ≢ sender
+    → Listed sender count low (h ∷ heard) h
 first_listed sender count low heard h from below other = record {
   from = from;
   below = below;
@@ -22,7 +23,8 @@ first_listed sender count low heard h from below other = record {
   found = ap (λ (b : Bool). if b then Some h.1 else place_in heard h.0) (eq-eqb h.0 h.0 refl);
 }
 
-later_listed : (sender count low : ℕ) (heard : List (ℕ × ℕ)) (g h : ℕ × ℕ) → low ≤ g.0 → Listed sender count (g.0 + 1) heard h → Listed sender count low (g ∷ heard) h
+later_listed : (sender count low : ℕ) (heard : List (ℕ × ℕ)) (g h : ℕ × ℕ) → low ≤ g.0 → Listed sender count (g.0 + 1) heard h
+    → Listed sender count low (g ∷ heard) h
 later_listed sender count low heard g h le r =
     let above = r.from in
     let ne : (g.0 == h.0) ≡ false = ne_eqb g.0 h.0 (λ e. omega arith) in
@@ -33,7 +35,8 @@ later_listed sender count low heard g h le r =
       found = ap (λ (b : Bool). if b then Some g.1 else place_in heard h.0) ne ∙ r.found;
     }
 
-listed : (sender count low : ℕ) (heard : List (ℕ × ℕ)) → AreHearers sender count low heard → (k : ℕ) (h : ℕ × ℕ) → slice_get heard k ≡ Some h → Listed sender count low heard h
+listed : (sender count low : ℕ) (heard : List (ℕ × ℕ)) → AreHearers sender count low heard → (k : ℕ) (h : ℕ × ℕ) → slice_get heard k ≡ Some h
+    → Listed sender count low heard h
 listed sender count low [] a k h e = cc
 listed sender count low (g ∷ heard) a zero h e =
     let same : g ≡ h = cc in
@@ -41,7 +44,8 @@ listed sender count low (g ∷ heard) a zero h e =
 listed sender count low (g ∷ heard) a (suc k) h e =
     later_listed sender count low heard g h a.0 (listed sender count (g.0 + 1) heard a.3 k h e)
 
-rising : (sender count low : ℕ) (heard : List (ℕ × ℕ)) → AreHearers sender count low heard → (j k : ℕ) (g h : ℕ × ℕ) → j < k → slice_get heard j ≡ Some g → slice_get heard k ≡ Some h → g.0 < h.0
+rising : (sender count low : ℕ) (heard : List (ℕ × ℕ)) → AreHearers sender count low heard → (j k : ℕ) (g h : ℕ × ℕ) → j < k
+    → slice_get heard j ≡ Some g → slice_get heard k ≡ Some h → g.0 < h.0
 rising sender count low [] a j k g h lt e f = cc
 rising sender count low (x ∷ heard) a zero zero g h lt e f = absurd (omega arith)
 rising sender count low (x ∷ heard) a (suc j) zero g h lt e f = absurd (omega arith)
@@ -62,7 +66,8 @@ listed_hear defs S sender place heard l T s k h e =
     let by = (multicast_by_number defs S sender place heard l T).0 s.moves in
     (r.below, r.other, λ C D at new. subst (λ (p : Option ℕ). Hears defs C l p D) r.found (by.hears h.0 C D r.other at new))
 
-sender_at : (defs : Definitions) (S : System) (sender : ℕ) (at : Option ℕ) (heard : List (ℕ × ℕ)) (T : System) → StepAt defs S sender at heard T → sender < length S
+sender_at : (defs : Definitions) (S : System) (sender : ℕ) (at : Option ℕ) (heard : List (ℕ × ℕ)) (T : System) → StepAt defs S sender at heard T
+    → sender < length S
 sender_at defs S sender None heard T s = s.0
 sender_at defs S sender (Some place) heard T s = s.1.exists
 

@@ -43,7 +43,13 @@ unguarded_called (Output es p us P) d h = absurd (false≢true h)
 unguarded_called (Input p xs us P) d h = absurd (false≢true h)
 unguarded_called (When g P) d h = unguarded_called P d h
 unguarded_called (Choice P Q) d h =
-    elim (in_either (unguarded_calls P) (unguarded_calls Q) d h) [ inl l ↦ in_left (calls P) (calls Q) d (unguarded_called P d l) | inr r ↦ in_right (calls P) (calls Q) d (unguarded_called Q d r) ]
+    elim (in_either (unguarded_calls P) (unguarded_calls Q) d h) [
+      | inl l ↦ in_left (calls P) (calls Q) d (unguarded_called P d l)
+      | inr r ↦ in_right (calls P) (calls Q) d (unguarded_called Q d r)
+    ]
 unguarded_called (Par P Q) d h =
-    elim (in_either (unguarded_calls P) (unguarded_calls Q) d h) [ inl l ↦ in_left (calls P) (calls Q) d (unguarded_called P d l) | inr r ↦ in_right (calls P) (calls Q) d (unguarded_called Q d r) ]
+    elim (in_either (unguarded_calls P) (unguarded_calls Q) d h) [
+      | inl l ↦ in_left (calls P) (calls Q) d (unguarded_called P d l)
+      | inr r ↦ in_right (calls P) (calls Q) d (unguarded_called Q d r)
+    ]
 unguarded_called (Call c) d h = h
