@@ -1,7 +1,12 @@
 pub mod Scoped
 pub mod Same
 pub mod Unfolded
+pub mod Finding
+pub mod Coming
 pub mod Reading
+pub mod Meant
+pub mod Starting
+pub mod Whole
+pub mod Either
 pub mod Said
-pub mod Interfaces
 pub mod Sounding

@@ -9,10 +9,10 @@ use Rattle.abc_pred.specs.Terms.{Operand, Literal, Var, Expr, Pred}
 use Rattle.abc_pred.specs.Maps.{Entries, IsMap, look_up, lists, set_to, same_name, ShowsTheSame}
 use Rattle.abc_pred.specs.Meaning.{sat, close, expr_val}
 use Rattle.abc_pred.proofs.Shown.{same_name-eq}
-use Rattle.abc_pred.proofs.Looks.{setting_sets, setting_keeps_the_others, setting_gives_a_map, maps_are_what_they_show}
+use Rattle.abc_pred.proofs.Looks.{setting_sets, setting_keeps_the_others, setting_gives_a_map}
 use Rattle.abc_term.specs.Substitution.{Values, put_variable, put_pred, put_expr, outside}
 use Rattle.abc_term.proofs.Bindings.{sat-put, expr-bound, close-put, putting_twice}
-use Rattle.abc_moves.specs.Scopes.{values_in, names_in, HasNoOthers, IsScope, bind_from, bind_all, PutsInside}
+use Rattle.abc_moves.specs.Scopes.{values_in, HasNoOthers, IsScope, bind_all, PutsInside}
 use Rattle.abc_moves.proofs.Same.{sat-vars, close-vars, expr_in-vars, put-same, variable-outside}
 
 -- ---- look-ups
@@ -49,28 +49,6 @@ set-by m n x v h false e =
 
 look_up-set : (m : Entries) (n x : Name) (v : Value) → IsMap m → look_up (set_to v n m) x ≡ (if same_name n x then v else look_up m x)
 look_up-set m n x v h = set-by m n x v h (same_name n x) refl
-
--- ---- a map that is copied
-from-step : (s : Bool) (n x : Name) (m : Entries) (l : Bool) (old : Value) → (s ≡ true → n ≡ x) → (if l then look_up m x else (if s then look_up m n else old)) ≡ (if s || l then look_up m x else old)
-from-step true n x m true old same = refl
-from-step true n x m false old same = ap (look_up m) (same refl)
-from-step false n x m l old same = refl
-
-look_up-bind_from : (ns : List Name) (m c : Entries) (x : Name) → IsMap c → look_up (bind_from ns m c) x ≡ (if lists ns x then look_up m x else look_up c x)
-look_up-bind_from [] m c x h = refl
-look_up-bind_from (n ∷ ns) m c x h =
-    look_up-bind_from ns m (set_to (look_up m n) n c) x (setting_gives_a_map c n (look_up m n) h)
-    ∙ ap (λ v. if lists ns x then look_up m x else v) (look_up-set c n x (look_up m n) h)
-    ∙ from-step (same_name n x) n x m (lists ns x) (look_up c x) (λ e. same_name-eq n x e)
-
-map-bind_from : (ns : List Name) (m c : Entries) → IsMap c → IsMap (bind_from ns m c)
-map-bind_from [] m c h = h
-map-bind_from (n ∷ ns) m c h = map-bind_from ns m (set_to (look_up m n) n c) (setting_gives_a_map c n (look_up m n) h)
-
-pub copied-same : (ns : List Name) (m : Entries) → IsScope ns m → bind_from ns m [] ≡ m
-copied-same ns m s =
-    maps_are_what_they_show (bind_from ns m []) m (map-bind_from ns m [] tt) s.map
-    (λ x. look_up-bind_from ns m [] x tt ∙ listed-or (lists ns x) (look_up m x) (s.no_others x))
 
 -- ---- variables that are bound anew
 map-bind_all : (xs : List Name) (vs : List Value) (m : Entries) → IsMap m → IsMap (bind_all xs vs m)
@@ -184,33 +162,21 @@ scope_inside ns xs vs m s n =
     record { map = map-bind_all xs vs m s.map; no_others = λ y. none-by ns xs vs m s.map n y (lists xs y) refl (s.no_others y) }
 
 -- ---- as the code makes them
-pub scope_copied : (ns b : List Name) (m v : Entries) → IsScope ns m → b ≡ ns → v ≡ bind_from ns m [] → IsScope b v
-scope_copied ns b m v s e f = subst (λ (w : Entries). IsScope b w) (sym (f ∙ copied-same ns m s)) (subst (λ (n : List Name). IsScope n m) (sym e) s)
+pub scope_copied : (ns b : List Name) (m v : Entries) → IsScope ns m → b ≡ ns → v ≡ m → IsScope b v
+scope_copied ns b m v s e f = subst (λ (w : Entries). IsScope b w) (sym f) (subst (λ (n : List Name). IsScope n m) (sym e) s)
 
-pub values_copied : (ns b : List Name) (m v : Entries) → IsScope ns m → b ≡ ns → v ≡ bind_from ns m [] → values_in b v ≡ values_in ns m
-values_copied ns b m v s e f i = values_in (e i) ((f ∙ copied-same ns m s) i)
+pub values_copied : (ns b : List Name) (m v : Entries) → b ≡ ns → v ≡ m → values_in b v ≡ values_in ns m
+values_copied ns b m v e f i = values_in (e i) (f i)
 
-pub scope_bound : (ns b xs : List Name) (vs : List Value) (m v : Entries) → IsScope ns m → length xs ≡ length vs → b ≡ ns ++ xs → v ≡ bind_all xs vs (bind_from ns m []) → IsScope b v
+pub scope_bound : (ns b xs : List Name) (vs : List Value) (m v : Entries) → IsScope ns m → length xs ≡ length vs → b ≡ ns ++ xs → v ≡ bind_all xs vs m → IsScope b v
 scope_bound ns b xs vs m v s n e f =
-    subst (λ (w : Entries). IsScope b w) (sym (f ∙ ap (bind_all xs vs) (copied-same ns m s))) (subst (λ (k : List Name). IsScope k (bind_all xs vs m)) (sym e) (scope_inside ns xs vs m s n))
+    subst (λ (w : Entries). IsScope b w) (sym f) (subst (λ (k : List Name). IsScope k (bind_all xs vs m)) (sym e) (scope_inside ns xs vs m s n))
 
-pub values_bound : (ns b xs : List Name) (vs : List Value) (m v : Entries) → IsScope ns m → length xs ≡ length vs → b ≡ ns ++ xs → v ≡ bind_all xs vs (bind_from ns m []) → PutsInside xs vs (values_in ns m) (values_in b v)
+pub values_bound : (ns b xs : List Name) (vs : List Value) (m v : Entries) → IsScope ns m → length xs ≡ length vs → b ≡ ns ++ xs → v ≡ bind_all xs vs m → PutsInside xs vs (values_in ns m) (values_in b v)
 values_bound ns b xs vs m v s n e f =
-    subst (λ (w : Entries). PutsInside xs vs (values_in ns m) (values_in b w)) (sym (f ∙ ap (bind_all xs vs) (copied-same ns m s)))
+    subst (λ (w : Entries). PutsInside xs vs (values_in ns m) (values_in b w)) (sym f)
     (subst (λ (k : List Name). PutsInside xs vs (values_in ns m) (values_in k (bind_all xs vs m))) (sym e) (puts_inside ns xs vs m s n))
 
--- ---- an environment that is copied
-other-step : (s l : Bool) (v rest : Value) → (s || l) ≡ false → (l ≡ false → rest ≡ Nothing) → (if s then v else rest) ≡ Nothing
-other-step true l v rest e f = absurd (true≢false e)
-other-step false l v rest e f = f e
-
-no_others-names_in : (es : Entries) → HasNoOthers (names_in es) es
-no_others-names_in [] x h = refl
-no_others-names_in (e ∷ es) x h = other-step (same_name e.0 x) (lists (names_in es) x) e.1 (look_up es x) h (no_others-names_in es x)
-
-pub copied_env : (items env copied : Entries) → IsMap env → items ≡ env → copied ≡ bind_from (names_in items) env [] → copied ≡ env
-copied_env items env copied m e f =
-    f ∙ ap (λ es. bind_from (names_in es) env []) e ∙ copied-same (names_in env) env (record { map = m; no_others = no_others-names_in env })
-
+-- ---- what a variable has
 pub look_up_scope : (ns : List Name) (m : Entries) (s : IsScope ns m) (x : Name) → look_up m x ≡ look_up (values_in ns m) x
 look_up_scope ns m s x = shows-values_in ns m s.no_others x

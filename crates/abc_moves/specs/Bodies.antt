@@ -1,10 +1,21 @@
 -- The bodies of definitions, as they are found in a program.
-use Rattle.std.specs.Prelude.{◌≡◌, ◌⊎◌, ℕ, ◌<◌, Option, Some, None}
+use Rattle.std.specs.Prelude.{◌≡◌, ◌⊎◌, ℕ, ◌<◌, List, Option, Some, None, nat_eq}
 use Rattle.std.specs.Borrow.{Bor}
+use Rattle.std.specs.List.{position_from}
+use Rattle.std.specs.HashMap.{HashMap, get}
 use Rattle.abc_pred.specs.declared.names.Name.{Name}
+use Rattle.abc_term.specs.declared.terms.Definition.{Definition}
 use Rattle.abc_term.specs.declared.terms.Process.{Process}
 use Rattle.abc_term.specs.Standing.{process_of}
 use Rattle.abc_term.specs.Processes as term
+
+-- The place of the first definition with the name of this number, from a place on.
+abbrev pub place_from : ℕ → List Definition → ℕ → Option ℕ
+place_from i ds n = position_from (λ d. nat_eq n d.name.0) i ds
+
+-- The map has the place of the first definition of each name that has one.
+abbrev pub FindsFirst : {S : Type 0} → HashMap ℕ ℕ S → List Definition → Type 0
+FindsFirst m ds = (n : ℕ) → get nat_eq m n ≡ place_from 0 ds n
 
 -- What a call stands for, 0 where there is no definition.
 abbrev pub body_in : Option (Bor Process) → term.Process

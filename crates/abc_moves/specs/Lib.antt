@@ -1,9 +1,10 @@
 pub mod Scopes
 pub mod Walks
 pub mod Bodies
+pub mod Arounds
 pub mod Trees
+pub mod States
 pub mod Labels
 pub mod Hears
-pub mod Interfaces
 pub mod Sounds
 pub mod Lives

@@ -1,5 +1,5 @@
 -- The component and the program that a live component stands for.
-use Rattle.std.specs.Prelude.{◌≡◌, ℕ, Some, slice_get}
+use Rattle.std.specs.Prelude.{◌≡◌, ℕ, List, Some, slice_get}
 use Rattle.abc_pred.specs.Maps.{ListsTheSame}
 use Rattle.abc_term.specs.declared.terms.Program.{Program}
 use Rattle.abc_term.specs.declared.terms.Component.{Component}
@@ -7,10 +7,10 @@ use Rattle.abc_term.specs.Standing.{definitions_of, component_of}
 use Rattle.abc_term.specs.Speaking.{Label, Speaks}
 use Rattle.abc_term.specs.Processes as term
 use Rattle.abc_moves.specs.declared.live.Live.{Live}
-use Rattle.abc_moves.specs.Trees.{parts}
+use Rattle.abc_moves.specs.States.{component_at}
 
 abbrev pub component_in : Live → term.Component
-component_in l = parts l.env l.interface l.tree
+component_in l = component_at l.state l.fixed.interface
 
 abbrev pub definitions_in : Live → term.Definitions
 definitions_in l = definitions_of l.definitions.now
@@ -23,6 +23,12 @@ pub record BeginsAs (first now : term.Component) : Type 0 where
 
 abbrev pub StartsAs : Program → ℕ → term.Component → Type 0
 StartsAs program i now = (C : Component) → slice_get program.components i ≡ Some C → BeginsAs (component_of C) now
+
+-- These are components of the program, in its order, as it begins with them.
+abbrev pub StartAs : Program → List Live → Type 0
+StartAs program lives =
+    (i : ℕ) (l : Live) → slice_get lives i ≡ Some l →
+    StartsAs program i (component_in l) × (definitions_in l ≡ definitions_of program.definitions)
 
 -- The output at this place has this label.
 abbrev pub IsSaid : term.Definitions → term.Component → ℕ → Label → Type 0

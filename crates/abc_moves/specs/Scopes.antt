@@ -20,11 +20,6 @@ pub record IsScope (names : List Name) (vars : Entries) : Type 0 where
   pub map : IsMap vars
   pub no_others : HasNoOthers names vars
 
--- The map after these variables get the values that another map has, in order.
-abbrev pub bind_from : List Name → Entries → Entries → Entries
-bind_from [] from vars = vars
-bind_from (x ∷ xs) from vars = bind_from xs from (set_to (look_up from x) x vars)
-
 -- The map after the variables get these values, the first of a variable's values last.
 abbrev pub bind_all : List Name → List Value → Entries → Entries
 bind_all [] vs vars = vars
@@ -34,6 +29,3 @@ bind_all (x ∷ xs) (v ∷ vs) vars = set_to v x (bind_all xs vs vars)
 -- Inside an input that binds xs, what is put is what was put outside, but for xs, and the message's values for these.
 abbrev pub PutsInside : List Name → List Value → Values → Values → Type 0
 PutsInside xs vs outer inner = (P : Process) → put inner P ≡ put (zip xs vs) (put (outside xs outer) P)
-
-abbrev pub names_in : Entries → List Name
-names_in es = map (λ e. e.0) es

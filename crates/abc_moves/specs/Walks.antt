@@ -1,11 +1,23 @@
--- How far a walk over the unguarded parts of a process goes, and what it counts there.
-use Rattle.std.specs.Prelude.{ℕ, List}
+-- How far a walk over the unguarded parts of a process goes, what it counts there, and the move that it comes to.
+use Rattle.std.specs.Prelude.{◌≡◌, ◌≤◌, ℕ, List}
 use Rattle.abc_pred.specs.declared.names.Name.{Name}
 use Rattle.abc_pred.specs.Maps.{Entries}
 use Rattle.abc_term.specs.Processes.{Process, Definitions}
 use Rattle.abc_sound.specs.Walks.{parts_of, call_parts}
 use Rattle.abc_term.specs.Hearing.{ins_of, call_ins, Takes, CallTakes}
 use Rattle.abc_term.specs.Speaking.{Label, outs_of, call_outs, Says, CallSays}
+use Rattle.abc_moves.specs.declared.walk.Walk.{Walk}
+use Rattle.abc_moves.specs.declared.walk.Walk.TheVariants.{Found, Passed}
+
+-- A walk for the move at a place, where there are so many moves: it has found the move, or passed all moves, and none is at the place.
+abbrev pub ComesTo : {M : Type 0} → (M → Type 0) → ℕ → ℕ → Walk M → Type 0
+ComesTo IsMove place count (Found m) = IsMove m
+ComesTo IsMove place count (Passed n) = (n ≡ count) × (n ≤ place)
+
+-- What holds where it has passed all moves.
+abbrev pub OnPassed : {M : Type 0} → Type 0 → Walk M → Type 0
+OnPassed P (Found m) = Unit {0}
+OnPassed P (Passed n) = P
 
 -- The number of outputs, calls unfolded to a depth.
 abbrev pub outs_at : ℕ → Definitions → Entries → Process → ℕ

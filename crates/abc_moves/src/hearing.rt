@@ -1,128 +1,108 @@
-ghost use Rattle.std.specs.Prelude.{◌≡◌, ◌<◌, IfOk, IsTrue, if◌then◌else◌};
+ghost use Rattle.std.specs.Prelude.{◌≡◌, IfOk, IsTrue};
 ghost use Rattle.std.specs.List.{zip};
 ghost use Rattle.abc_pred.specs.Standing.{pred_of};
-ghost use Rattle.abc_term.specs.Processes.{Par};
-ghost use Rattle.abc_term.specs.Standing.{process_of, definitions_of, updates_of};
+ghost use Rattle.abc_term.specs.Standing.{process_of, updates_of};
 ghost use Rattle.abc_term.specs.Substitution.{put, put_pred, put_updates, outside};
 ghost use Rattle.abc_term.specs.Speaking.{updated};
 ghost use Rattle.abc_term.specs.Hearing.{takes};
-ghost use Rattle.abc_moves.specs.Walks.{ins_at, TakesAt};
+ghost use Rattle.abc_moves.specs.Walks.{ComesTo};
+ghost use Rattle.abc_moves.specs.Arounds.{ins_here, TakesHere, IsMeantHere, env_after};
 ghost use Rattle.abc_moves.specs.Labels.{label_of};
 ghost use Rattle.abc_moves.specs.Trees.{process_in};
 
 use crate::around::Around;
 use crate::label::Label;
+use crate::moved::Moved;
 use crate::scope::Scope;
-use crate::speaking::updated;
 use crate::tree::Tree;
-use crate::walk::{callee, inputs};
-use abc_pred::{Env, Name, Pred};
+use crate::updates::updated;
+use crate::walk::{Walk, holds, takes};
+use abc_pred::{Name, Pred};
 use abc_term::{After, Process};
 use abc_value::{List, NoMemory};
 use std::alloc::Global;
 
-/// What an input makes of a component.
-#[derive(Drop)]
-pub struct Taken<'p> {
-    /// The environment after the input's updates.
-    pub env: Env,
-    /// The process from then on.
-    pub tree: Tree<'p>,
-}
+/// What an input makes.
+pub type Taken<'p> = Moved<'p, ()>;
 
 /// The input that stands here takes the message.
 fn received<'p>(
+    alloc: Global,
     at: &Around<'_, 'p>,
     label: &Label,
     scope: &Scope,
     p: &Pred,
     xs: &List<Name>,
     after: &'p After,
-    place: u32,
 ) -> Result<Taken<'p>, NoMemory>
-    requires { place
-        < (if takes (label_of label.now) at.now.env.now at.now.interface.now (put_pred (outside xs.now scope.now) (pred_of p.now)) xs.now then 1 else 0) }
-    ensures place { place ≡ 0 }
-    ensures takes { IsTrue (takes (label_of label.now) at.now.env.now at.now.interface.now (put_pred (outside xs.now scope.now) (pred_of p.now)) xs.now) }
+    requires { IsTrue (takes (label_of label.now) at.now.env.now at.now.interface.now (put_pred (outside xs.now scope.now) (pred_of p.now)) xs.now) }
     ensures env { IfOk result
-        (λ s. s.env
+        (λ s. env_after at.now s.env
         ≡ updated (put_updates (zip xs.now label.now.values) (put_updates (outside xs.now scope.now) (updates_of after.now.updates))) at.now.env.now) }
     ensures then { IfOk result
         (λ s. process_in s.tree ≡ put (zip xs.now label.now.values) (put (outside xs.now scope.now) (process_of after.now.then.value))) }
 {
-    let inside = scope.inside(at.alloc, xs.as_slice(), label.values.as_slice())?;
-    let env = updated(at.alloc, at.env, &inside, after.updates.as_slice())?;
+    let inside = scope.inside(alloc, xs.as_slice(), label.values.as_slice())?;
+    let env = updated(alloc, at.env, &inside, after.updates.as_slice())?;
     let tree = Tree::Leaf(&after.then, inside);
-    Ok(Taken { env, tree })
+    Ok(Moved {
+        said: (),
+        env,
+        tree,
+    })
 }
 
-impl<'p> Taken<'p> {
-    /// What moved stands on the left of what stays.
-    pub fn left_of(self, alloc: Global, stays: Tree<'p>) -> Result<Taken<'p>, NoMemory>
-        ensures env { IfOk result (λ s. s.env ≡ self.entry.env) }
-        ensures tree { IfOk result (λ s. process_in s.tree ≡ Par (process_in self.entry.tree) (process_in stays.entry)) }
-    {
-        let Taken { env, tree } = self;
-        let tree = Tree::pair(alloc, tree, stays)?;
-        Ok(Taken { env, tree })
-    }
-
-    /// What moved stands on the right of what stays.
-    pub fn right_of(self, alloc: Global, stays: Tree<'p>) -> Result<Taken<'p>, NoMemory>
-        ensures env { IfOk result (λ s. s.env ≡ self.entry.env) }
-        ensures tree { IfOk result (λ s. process_in s.tree ≡ Par (process_in stays.entry) (process_in self.entry.tree)) }
-    {
-        let Taken { env, tree } = self;
-        let tree = Tree::pair(alloc, stays, tree)?;
-        Ok(Taken { env, tree })
-    }
-}
-
-/// What the process becomes as its input at a place takes the message, one of this many that do,
-/// calls unfolded to the depth.
+/// A walk over the process for its input at a place, among those that take a message which is meant for
+/// the component. That input takes it. Calls are unfolded to the depth.
 pub fn hear<'p>(
+    alloc: Global,
     at: &Around<'_, 'p>,
     label: &Label,
     depth: usize,
     scope: &Scope,
     p: &'p Process,
     place: u32,
-    total: u32,
-) -> Result<Taken<'p>, NoMemory>
-    requires total { total ≡ ins_at depth (definitions_of at.now.definitions.now) (label_of label.now) at.now.env.now at.now.interface.now (put scope.now (process_of p.now)) }
-    requires among { place < total }
-    ensures { IfOk result
-        (λ s. TakesAt depth (definitions_of at.now.definitions.now) (label_of label.now) at.now.env.now at.now.interface.now
-        (put scope.now (process_of p.now)) place s.env (process_in s.tree)) }
+) -> Result<Walk<Taken<'p>>, NoMemory>
+    requires { IsMeantHere at.now (label_of label.now) }
+    ensures { IfOk result (ComesTo
+        (λ s. TakesHere at.now (label_of label.now) depth (put scope.now (process_of p.now)) place s.env (process_in s.tree))
+        place (ins_here at.now (label_of label.now) depth (put scope.now (process_of p.now)))) }
 {
     match p {
-        Process::Input(p, xs, after) => received(at, label, scope, p, xs, after, place),
-        Process::When(_, p) => hear(at, label, depth, scope, p, place, total),
-        Process::Choice(p, q) => {
-            let count = total - inputs(at, label, depth, scope, q);
-            if place < count {
-                hear(at, label, depth, scope, p, place, count)
+        Process::Input(p, xs, after) => {
+            if !takes(at, label, scope, p, xs.as_slice()) {
+                Ok(Walk::Passed(0))
+            } else if place == 0 {
+                Ok(Walk::Found(received(alloc, at, label, scope, p, xs, after)?))
             } else {
-                hear(at, label, depth, scope, q, place - count, total - count)
+                Ok(Walk::Passed(1))
             }
         }
-        Process::Par(p, q) => {
-            let count = total - inputs(at, label, depth, scope, q);
-            if place < count {
-                let stays = Tree::leaf(at.alloc, q, scope)?;
-                hear(at, label, depth, scope, p, place, count)?.left_of(at.alloc, stays)
+        Process::When(g, p) => {
+            if holds(at, scope, g) {
+                hear(alloc, at, label, depth, scope, p, place)
             } else {
-                let stays = Tree::leaf(at.alloc, p, scope)?;
-                hear(at, label, depth, scope, q, place - count, total - count)?.right_of(
-                    at.alloc, stays,
-                )
+                Ok(Walk::Passed(0))
             }
         }
-        Process::Call(c) => match callee(at.definitions, depth, *c) {
-            Some(body) => hear(at, label, depth - 1, &at.unbound, body, place, total),
-            None => unreachable!(),
+        Process::Choice(p, q) => match hear(alloc, at, label, depth, scope, p, place)? {
+            Walk::Found(s) => Ok(Walk::Found(s)),
+            Walk::Passed(n) => match hear(alloc, at, label, depth, scope, q, place - n)? {
+                Walk::Found(s) => Ok(Walk::Found(s)),
+                Walk::Passed(m) => Ok(Walk::Passed(n + m)),
+            },
         },
-        Process::Nil => unreachable!(),
-        Process::Output(_, _, _) => unreachable!(),
+        Process::Par(p, q) => match hear(alloc, at, label, depth, scope, p, place)? {
+            Walk::Found(s) => Ok(Walk::Found(s.left_of(alloc, scope, q)?)),
+            Walk::Passed(n) => match hear(alloc, at, label, depth, scope, q, place - n)? {
+                Walk::Found(s) => Ok(Walk::Found(s.right_of(alloc, scope, p)?)),
+                Walk::Passed(m) => Ok(Walk::Passed(n + m)),
+            },
+        },
+        Process::Call(c) => match at.bodies.callee(depth, *c) {
+            Some(body) => hear(alloc, at, label, depth - 1, &at.unbound, body, place),
+            None => Ok(Walk::Passed(0)),
+        },
+        Process::Nil | Process::Output(_, _, _) => Ok(Walk::Passed(0)),
     }
 }

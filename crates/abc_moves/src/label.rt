@@ -1,3 +1,6 @@
+ghost use Rattle.abc_pred.specs.Meaning.{IsClosed};
+ghost use Rattle.abc_pred.specs.Standing.{pred_of};
+
 use abc_pred::{Env, Pred};
 use abc_value::{List, Value};
 
@@ -10,4 +13,5 @@ pub struct Label {
     pub pred: Pred,
     /// The values of the output's tuple.
     pub values: List<Value>,
+    pub ghost closed: { ∥ IsClosed (pred_of pred) ∥₁ },
 }

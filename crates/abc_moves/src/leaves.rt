@@ -1,22 +1,24 @@
 ghost use Rattle.std.specs.Prelude.{◌≡◌, ◌<◌, ◌^◌, IfOk, OnErr};
-ghost use Rattle.abc_term.specs.Standing.{definitions_of};
-ghost use Rattle.abc_moves.specs.Walks.{outs_at, ins_at, SaysAt, TakesAt, IsSaidAt};
+ghost use Rattle.abc_moves.specs.Walks.{ComesTo, OnPassed};
+ghost use Rattle.abc_moves.specs.Arounds.{outs_here, ins_here, IsSaidHere, SaysHere, TakesHere, IsMeantHere};
 ghost use Rattle.abc_moves.specs.Labels.{label_of};
 ghost use Rattle.abc_moves.specs.Trees.{process_in};
 
 use crate::around::Around;
-use crate::hearing::{Taken, hear};
+use crate::hearing::hear;
 use crate::label::Label;
-use crate::speaking::{Spoken, label, speak};
+use crate::moved::Moved;
+use crate::speaking::speak;
 use crate::tree::Tree;
-use crate::walk::{inputs, outputs};
+use crate::walk::{Walk, inputs, is_meant, outputs};
 use abc_pred::Env;
 use abc_value::NoMemory;
+use std::alloc::Global;
 
 /// The number of outputs of all leaves.
 pub fn outputs_of(at: &Around<'_, '_>, depth: usize, tree: &Tree<'_>) -> u32
-    requires { outs_at depth (definitions_of at.now.definitions.now) at.now.env.now (process_in tree.now) < 2 ^ 32 }
-    ensures { result ≡ outs_at depth (definitions_of at.now.definitions.now) at.now.env.now (process_in tree.now) }
+    requires { outs_here at.now depth (process_in tree.now) < 2 ^ 32 }
+    ensures { result ≡ outs_here at.now depth (process_in tree.now) }
 {
     match tree {
         Tree::Leaf(p, scope) => outputs(at, depth, scope, p),
@@ -25,126 +27,143 @@ pub fn outputs_of(at: &Around<'_, '_>, depth: usize, tree: &Tree<'_>) -> u32
     }
 }
 
-/// The number of inputs of all leaves that take the message.
-pub fn inputs_of(at: &Around<'_, '_>, label: &Label, depth: usize, tree: &Tree<'_>) -> u32
-    requires { ins_at depth (definitions_of at.now.definitions.now) (label_of label.now) at.now.env.now at.now.interface.now (process_in tree.now) < 2 ^ 32 }
-    ensures { result ≡ ins_at depth (definitions_of at.now.definitions.now) (label_of label.now) at.now.env.now at.now.interface.now (process_in tree.now) }
+/// The number of inputs of all leaves that take a message which is meant for the component.
+fn inputs_meant(at: &Around<'_, '_>, label: &Label, depth: usize, tree: &Tree<'_>) -> u32
+    requires meant { IsMeantHere at.now (label_of label.now) }
+    requires fits { ins_here at.now (label_of label.now) depth (process_in tree.now) < 2 ^ 32 }
+    ensures { result ≡ ins_here at.now (label_of label.now) depth (process_in tree.now) }
 {
     match tree {
         Tree::Leaf(p, scope) => inputs(at, label, depth, scope, p),
-        Tree::Par(sides) => inputs_of(at, label, depth, &sides.left)
-            + inputs_of(at, label, depth, &sides.right),
+        Tree::Par(sides) => inputs_meant(at, label, depth, &sides.left)
+            + inputs_meant(at, label, depth, &sides.right),
     }
 }
 
-/// The label of the output at a place, one of this many.
-pub fn label_at(
-    at: &Around<'_, '_>,
+/// The number of inputs of all leaves that take the message: none where it is not meant for the component.
+pub fn inputs_of(at: &Around<'_, '_>, label: &Label, depth: usize, tree: &Tree<'_>) -> u32
+    requires { ins_here at.now (label_of label.now) depth (process_in tree.now) < 2 ^ 32 }
+    ensures { result ≡ ins_here at.now (label_of label.now) depth (process_in tree.now) }
+{
+    if is_meant(at, label) {
+        inputs_meant(at, label, depth, tree)
+    } else {
+        0
+    }
+}
+
+/// A walk over the leaves for the label of the output at a place. The move is made and let go.
+pub fn label_at<'p>(
+    alloc: Global,
+    at: &Around<'_, 'p>,
     depth: usize,
-    tree: &Tree<'_>,
+    tree: &Tree<'p>,
     place: u32,
-    total: u32,
-) -> Result<Label, NoMemory>
-    requires total { total ≡ outs_at depth (definitions_of at.now.definitions.now) at.now.env.now (process_in tree.now) }
-    requires among { place < total }
-    ensures { IfOk result
-        (λ l. IsSaidAt depth (definitions_of at.now.definitions.now) at.now.env.now at.now.interface.now (process_in tree.now) place (label_of l)) }
+) -> Result<Walk<Label>, NoMemory>
+    ensures { IfOk result (ComesTo
+        (λ l. IsSaidHere at.now depth (process_in tree.now) place (label_of l))
+        place (outs_here at.now depth (process_in tree.now))) }
 {
     match tree {
-        Tree::Leaf(p, scope) => label(at, depth, scope, p, place, total),
-        Tree::Par(sides) => {
-            let count = total - outputs_of(at, depth, &sides.right);
-            if place < count {
-                label_at(at, depth, &sides.left, place, count)
-            } else {
-                label_at(at, depth, &sides.right, place - count, total - count)
-            }
-        }
+        Tree::Leaf(p, scope) => match speak(alloc, at, depth, scope, p, place)? {
+            Walk::Found(moved) => Ok(Walk::Found(moved.said())),
+            Walk::Passed(n) => Ok(Walk::Passed(n)),
+        },
+        Tree::Par(sides) => match label_at(alloc, at, depth, &sides.left, place)? {
+            Walk::Found(l) => Ok(Walk::Found(l)),
+            Walk::Passed(n) => match label_at(alloc, at, depth, &sides.right, place - n)? {
+                Walk::Found(l) => Ok(Walk::Found(l)),
+                Walk::Passed(m) => Ok(Walk::Passed(n + m)),
+            },
+        },
     }
 }
 
-/// What a leaf's move leaves besides its tree: what was said and the environment.
+/// What a move leaves besides its tree: what was said, and the environment where it is a new one.
 #[derive(Drop)]
 pub struct Said {
     pub label: Label,
-    pub env: Env,
+    pub env: Option<Env>,
 }
 
-/// The output at a place is made, one of this many: its leaf moves, and the other leaves stay where
-/// they are. After `NoMemory` the tree is as before.
+/// A walk over the leaves for the output at a place, which is made: its leaf moves, and the other leaves
+/// stay where they are. Where there is none, and after `NoMemory`, the tree is as before.
 pub fn speak_at<'p>(
+    alloc: Global,
     at: &Around<'_, 'p>,
     depth: usize,
     tree: &mut Tree<'p>,
     place: u32,
-    total: u32,
-) -> Result<Said, NoMemory>
-    requires total { total ≡ outs_at depth (definitions_of at.now.definitions.now) at.now.env.now (process_in tree.old) }
-    requires among { place < total }
-    ensures ok { IfOk result
-        (λ s. SaysAt depth (definitions_of at.now.definitions.now) at.now.env.now at.now.interface.now
-        (process_in tree.old) place (label_of s.label) s.env (process_in tree.new)) }
+) -> Result<Walk<Said>, NoMemory>
+    ensures ok { IfOk result (ComesTo
+        (λ s. SaysHere at.now depth (process_in tree.old) place (label_of s.label) s.env (process_in tree.new))
+        place (outs_here at.now depth (process_in tree.old))) }
+    ensures stays { IfOk result (OnPassed (process_in tree.new ≡ process_in tree.old)) }
     ensures err { OnErr result (process_in tree.new ≡ process_in tree.old) }
 {
     match tree {
-        Tree::Leaf(p, scope) => {
-            let Spoken {
-                label,
-                env,
-                tree: moved,
-            } = speak(at, depth, scope, p, place, total)?;
-            *tree = moved;
-            Ok(Said { label, env })
-        }
-        Tree::Par(sides) => {
-            let count = total - outputs_of(at, depth, &sides.right);
-            if place < count {
-                speak_at(at, depth, &mut sides.left, place, count)
-            } else {
-                speak_at(at, depth, &mut sides.right, place - count, total - count)
+        Tree::Leaf(p, scope) => match speak(alloc, at, depth, scope, p, place)? {
+            Walk::Found(moved) => {
+                let Moved {
+                    said: label,
+                    env,
+                    tree: leaf,
+                } = moved;
+                *tree = leaf;
+                Ok(Walk::Found(Said { label, env }))
             }
-        }
+            Walk::Passed(n) => Ok(Walk::Passed(n)),
+        },
+        Tree::Par(sides) => match speak_at(alloc, at, depth, &mut sides.left, place)? {
+            Walk::Found(s) => Ok(Walk::Found(s)),
+            Walk::Passed(n) => match speak_at(alloc, at, depth, &mut sides.right, place - n)? {
+                Walk::Found(s) => Ok(Walk::Found(s)),
+                Walk::Passed(m) => Ok(Walk::Passed(n + m)),
+            },
+        },
     }
 }
 
-/// The input at a place takes the message, one of this many that do: its leaf moves, and the other
-/// leaves stay where they are. It gives the environment from then on. After `NoMemory` the tree is as
-/// before.
+/// A walk over the leaves for the input at a place, among those that take a message which is meant for the
+/// component. It takes the message: its leaf moves, and the other leaves stay where they are. What is given
+/// is the environment where it is a new one. Where there is no such input, and after `NoMemory`, the tree
+/// is as before.
 pub fn hear_at<'p>(
+    alloc: Global,
     at: &Around<'_, 'p>,
     label: &Label,
     depth: usize,
     tree: &mut Tree<'p>,
     place: u32,
-    total: u32,
-) -> Result<Env, NoMemory>
-    requires total { total ≡ ins_at depth (definitions_of at.now.definitions.now) (label_of label.now) at.now.env.now at.now.interface.now (process_in tree.old) }
-    requires among { place < total }
-    ensures ok { IfOk result
-        (λ e. TakesAt depth (definitions_of at.now.definitions.now) (label_of label.now) at.now.env.now at.now.interface.now
-        (process_in tree.old) place e (process_in tree.new)) }
+) -> Result<Walk<Option<Env>>, NoMemory>
+    requires { IsMeantHere at.now (label_of label.now) }
+    ensures ok { IfOk result (ComesTo
+        (λ e. TakesHere at.now (label_of label.now) depth (process_in tree.old) place e (process_in tree.new))
+        place (ins_here at.now (label_of label.now) depth (process_in tree.old))) }
+    ensures stays { IfOk result (OnPassed (process_in tree.new ≡ process_in tree.old)) }
     ensures err { OnErr result (process_in tree.new ≡ process_in tree.old) }
 {
     match tree {
-        Tree::Leaf(p, scope) => {
-            let Taken { env, tree: moved } = hear(at, label, depth, scope, p, place, total)?;
-            *tree = moved;
-            Ok(env)
-        }
-        Tree::Par(sides) => {
-            let count = total - inputs_of(at, label, depth, &sides.right);
-            if place < count {
-                hear_at(at, label, depth, &mut sides.left, place, count)
-            } else {
-                hear_at(
-                    at,
-                    label,
-                    depth,
-                    &mut sides.right,
-                    place - count,
-                    total - count,
-                )
+        Tree::Leaf(p, scope) => match hear(alloc, at, label, depth, scope, p, place)? {
+            Walk::Found(moved) => {
+                let Moved {
+                    said: (),
+                    env,
+                    tree: leaf,
+                } = moved;
+                *tree = leaf;
+                Ok(Walk::Found(env))
             }
-        }
+            Walk::Passed(n) => Ok(Walk::Passed(n)),
+        },
+        Tree::Par(sides) => match hear_at(alloc, at, label, depth, &mut sides.left, place)? {
+            Walk::Found(env) => Ok(Walk::Found(env)),
+            Walk::Passed(n) => {
+                match hear_at(alloc, at, label, depth, &mut sides.right, place - n)? {
+                    Walk::Found(env) => Ok(Walk::Found(env)),
+                    Walk::Passed(m) => Ok(Walk::Passed(n + m)),
+                }
+            }
+        },
     }
 }

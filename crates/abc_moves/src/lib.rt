@@ -5,14 +5,18 @@
 #![tactic(auto)]
 
 mod around;
+mod bodies;
 mod component;
 mod hearing;
 mod label;
 mod leaves;
 mod live;
+mod moved;
 mod scope;
 mod speaking;
+mod state;
 mod tree;
+mod updates;
 mod walk;
 mod wanted;
 

@@ -1,11 +1,11 @@
 ghost use Rattle.std.specs.Prelude.{◌≡◌, [], IfOk, length};
 ghost use Rattle.abc_value.specs.Values.{seen};
 ghost use Rattle.abc_pred.specs.Maps.{look_up};
-ghost use Rattle.abc_pred.specs.Meaning.{sat, close, expr_val};
+ghost use Rattle.abc_pred.specs.Meaning.{sat, close, expr_val, IsClosed};
 ghost use Rattle.abc_pred.specs.Standing.{expr_of, pred_of};
 ghost use Rattle.abc_pred.specs.Seeing.{other_of};
 ghost use Rattle.abc_term.specs.Substitution.{put_pred, put_expr};
-ghost use Rattle.abc_moves.specs.Scopes.{values_in, IsScope, bind_from, bind_all, PutsInside};
+ghost use Rattle.abc_moves.specs.Scopes.{values_in, IsScope, bind_all, PutsInside};
 
 use abc_pred::{Bindings, Env, Expr, Name, Pred, Seen, close, eval, sat};
 use abc_value::{List, NoMemory, Value, View};
@@ -60,7 +60,8 @@ impl Scope {
 
     /// The predicate that a sender with these variables and attributes sends.
     pub fn closed(&self, alloc: Global, p: &Pred, own: &Env) -> Result<Pred, NoMemory>
-        ensures { IfOk result (λ c. pred_of c ≡ close (put_pred self.now (pred_of p.now)) own.now []) }
+        ensures closing { IfOk result (λ c. pred_of c ≡ close (put_pred self.now (pred_of p.now)) own.now []) }
+        ensures closed { IfOk result (λ c. IsClosed (pred_of c)) }
     {
         close(alloc, p, own, &self.vars)
     }
@@ -76,8 +77,8 @@ impl Scope {
     pub fn copy(&self, alloc: Global) -> Result<Scope, NoMemory>
         ensures { IfOk result (λ s. s ≡ self.now) }
     {
-        let bound = copied_names(alloc, self.bound.as_slice())?;
-        let vars = copied(alloc, self.bound.as_slice(), &self.vars)?;
+        let bound = names_copy(alloc, self.bound.as_slice())?;
+        let vars = self.vars.copy(alloc)?;
         Ok(scope_of(bound, vars))
     }
 
@@ -86,9 +87,9 @@ impl Scope {
         requires { length xs.now ≡ length values.now }
         ensures { IfOk result (λ s. PutsInside xs.now values.now self.now s) }
     {
-        let mut bound = copied_names(alloc, self.bound.as_slice())?;
+        let mut bound = names_copy(alloc, self.bound.as_slice())?;
         bound.extend_from_slice(xs)?;
-        let mut vars = copied(alloc, self.bound.as_slice(), &self.vars)?;
+        let mut vars = self.vars.copy(alloc)?;
         bind_each(alloc, &mut vars, xs, values)?;
         Ok(scope_of(bound, vars))
     }
@@ -101,22 +102,11 @@ fn scope_of(bound: List<Name>, vars: Bindings) -> Scope
     Scope { bound, vars }
 }
 
-fn copied_names(alloc: Global, names: &[Name]) -> Result<List<Name>, NoMemory>
+fn names_copy(alloc: Global, names: &[Name]) -> Result<List<Name>, NoMemory>
     ensures { IfOk result (λ l. l ≡ names.now) }
 {
     let mut copied = List::new(alloc);
     copied.extend_from_slice(names)?;
-    Ok(copied)
-}
-
-/// The map again, given the names among which all of its own are.
-fn copied(alloc: Global, names: &[Name], vars: &Bindings) -> Result<Bindings, NoMemory>
-    ensures { IfOk result (λ b. b ≡ bind_from names.now vars.now []) }
-{
-    let mut copied = Bindings::empty(alloc);
-    for name in names {
-        copied.bind(*name, vars.get(*name).to_value(alloc)?)?;
-    }
     Ok(copied)
 }
 

@@ -1,66 +1,26 @@
 ghost use Rattle.std.specs.Prelude.{◌≡◌, ◌<◌, ◌^◌, []};
-ghost use Rattle.abc_term.specs.Processes.{body_of};
-ghost use Rattle.abc_term.specs.Standing.{process_of, definitions_of};
+ghost use Rattle.abc_term.specs.Standing.{process_of};
 ghost use Rattle.abc_term.specs.Substitution.{put, put_pred, outside};
 ghost use Rattle.abc_pred.specs.Meaning.{sat};
 ghost use Rattle.abc_pred.specs.Standing.{pred_of};
-ghost use Rattle.abc_moves.specs.Bodies.{body_in, IsUnfolded};
-ghost use Rattle.abc_moves.specs.Walks.{outs_at, ins_at};
-ghost use Rattle.abc_moves.specs.Labels.{label_of};
 ghost use Rattle.abc_term.specs.Hearing.{takes, is_meant};
+ghost use Rattle.abc_moves.specs.Labels.{label_of};
+ghost use Rattle.abc_moves.specs.Arounds.{outs_here, ins_here, IsMeantHere};
 
 use crate::around::Around;
 use crate::label::Label;
 use crate::scope::Scope;
 use crate::wanted::Heard;
 use abc_pred::{Name, Pred, Seen};
-use abc_term::{Definition, Process};
+use abc_term::Process;
 
-/// The body of the first definition of this name.
-fn body(definitions: &[Definition], name: Name) -> Option<&Process>
-    ensures { body_in result ≡ body_of (definitions_of definitions.now) name }
-{
-    for definition in definitions {
-        if definition.name == name {
-            return Some(&definition.body);
-        }
-    }
-    None
-}
-
-/// What a call is unfolded to, where some depth is left.
-pub fn callee(definitions: &[Definition], depth: usize, name: Name) -> Option<&Process>
-    ensures { IsUnfolded depth (definitions_of definitions.now) name result }
-{
-    if depth == 0 {
-        return None;
-    }
-    body(definitions, name)
-}
-
-/// How many outputs of the process are enabled, calls unfolded to the depth.
-pub fn outputs(at: &Around<'_, '_>, depth: usize, scope: &Scope, p: &Process) -> u32
-    requires { outs_at depth (definitions_of at.now.definitions.now) at.now.env.now (put scope.now (process_of p.now)) < 2 ^ 32 }
-    ensures { result ≡ outs_at depth (definitions_of at.now.definitions.now) at.now.env.now (put scope.now (process_of p.now)) }
-{
-    match p {
-        Process::Nil => 0,
-        Process::Output(_, _, _) => 1,
-        Process::Input(_, _, _) => 0,
-        Process::When(g, p) => {
-            if holds(at, scope, g) {
-                outputs(at, depth, scope, p)
-            } else {
-                0
-            }
-        }
-        Process::Choice(p, q) => outputs(at, depth, scope, p) + outputs(at, depth, scope, q),
-        Process::Par(p, q) => outputs(at, depth, scope, p) + outputs(at, depth, scope, q),
-        Process::Call(c) => match callee(at.definitions, depth, *c) {
-            Some(body) => outputs(at, depth - 1, &at.unbound, body),
-            None => 0,
-        },
-    }
+/// What a walk from the left for the move at a place comes to.
+#[derive(Drop)]
+pub enum Walk<M> {
+    /// The move at the place.
+    Found(M),
+    /// There are so many moves, and none is at the place.
+    Passed(u32),
 }
 
 /// Whether a guard holds in the component's own environment.
@@ -74,28 +34,8 @@ pub fn holds(at: &Around<'_, '_>, scope: &Scope, g: &Pred) -> bool
     scope.satisfies(g, at.env, own)
 }
 
-/// Whether the input takes the message: it has as many values as the input has variables, and both
-/// sides' predicates hold.
-fn takes(at: &Around<'_, '_>, label: &Label, scope: &Scope, p: &Pred, xs: &[Name]) -> bool
-    ensures { result
-        ≡ takes (label_of label.now) at.now.env.now at.now.interface.now (put_pred (outside xs.now scope.now) (pred_of p.now)) xs.now }
-{
-    if label.values.len() != xs.len() {
-        return false;
-    }
-    let values = label.values.as_slice();
-    let heard = Heard {
-        xs,
-        values,
-        scope,
-        own: at.env,
-        shown: &label.shown,
-    };
-    is_meant(at, label) && heard.is_wanted(p)
-}
-
-/// Whether the component's interface satisfies the sender's predicate.
-fn is_meant(at: &Around<'_, '_>, label: &Label) -> bool
+/// Whether the component's interface satisfies the sender's predicate: no input takes the message else.
+pub fn is_meant(at: &Around<'_, '_>, label: &Label) -> bool
     ensures { result ≡ is_meant (label_of label.now) at.now.env.now at.now.interface.now }
 {
     let seen = Seen {
@@ -105,21 +45,58 @@ fn is_meant(at: &Around<'_, '_>, label: &Label) -> bool
     at.unbound.satisfies(&label.pred, &at.nobody, seen)
 }
 
-/// How many inputs of the process take the message, calls unfolded to the depth.
-pub fn inputs(at: &Around<'_, '_>, label: &Label, depth: usize, scope: &Scope, p: &Process) -> u32
-    requires { ins_at depth (definitions_of at.now.definitions.now) (label_of label.now) at.now.env.now at.now.interface.now (put scope.now (process_of p.now)) < 2 ^ 32 }
-    ensures { result ≡ ins_at depth (definitions_of at.now.definitions.now) (label_of label.now) at.now.env.now at.now.interface.now (put scope.now (process_of p.now)) }
+/// Whether the input takes a message that is meant for the component: it has as many values as the input
+/// has variables, and the sender's interface satisfies the input's predicate.
+pub fn takes(at: &Around<'_, '_>, label: &Label, scope: &Scope, p: &Pred, xs: &[Name]) -> bool
+    requires { IsMeantHere at.now (label_of label.now) }
+    ensures { result
+        ≡ takes (label_of label.now) at.now.env.now at.now.interface.now (put_pred (outside xs.now scope.now) (pred_of p.now)) xs.now }
+{
+    if label.values.len() != xs.len() {
+        return false;
+    }
+    let heard = Heard {
+        xs,
+        values: label.values.as_slice(),
+        scope,
+    };
+    heard.is_wanted(p, at.env, &label.shown)
+}
+
+/// How many outputs of the process are enabled, calls unfolded to the depth.
+pub fn outputs(at: &Around<'_, '_>, depth: usize, scope: &Scope, p: &Process) -> u32
+    requires { outs_here at.now depth (put scope.now (process_of p.now)) < 2 ^ 32 }
+    ensures { result ≡ outs_here at.now depth (put scope.now (process_of p.now)) }
 {
     match p {
-        Process::Nil => 0,
-        Process::Output(_, _, _) => 0,
-        Process::Input(p, xs, _) => {
-            if takes(at, label, scope, p, xs.as_slice()) {
-                1
+        Process::Output(_, _, _) => 1,
+        Process::When(g, p) => {
+            if holds(at, scope, g) {
+                outputs(at, depth, scope, p)
             } else {
                 0
             }
         }
+        Process::Choice(p, q) | Process::Par(p, q) => {
+            outputs(at, depth, scope, p) + outputs(at, depth, scope, q)
+        }
+        Process::Call(c) => match at.bodies.callee(depth, *c) {
+            Some(body) => outputs(at, depth - 1, &at.unbound, body),
+            None => 0,
+        },
+        Process::Nil | Process::Input(_, _, _) => 0,
+    }
+}
+
+/// How many inputs of the process take a message that is meant for the component, calls unfolded to the
+/// depth.
+pub fn inputs(at: &Around<'_, '_>, label: &Label, depth: usize, scope: &Scope, p: &Process) -> u32
+    requires meant { IsMeantHere at.now (label_of label.now) }
+    requires fits { ins_here at.now (label_of label.now) depth (put scope.now (process_of p.now)) < 2 ^ 32 }
+    ensures { result ≡ ins_here at.now (label_of label.now) depth (put scope.now (process_of p.now)) }
+{
+    match p {
+        Process::Input(p, xs, _) => u32::from(takes(at, label, scope, p, xs.as_slice())),
         Process::When(guard, p) => {
             if holds(at, scope, guard) {
                 inputs(at, label, depth, scope, p)
@@ -127,15 +104,13 @@ pub fn inputs(at: &Around<'_, '_>, label: &Label, depth: usize, scope: &Scope, p
                 0
             }
         }
-        Process::Choice(p, q) => {
+        Process::Choice(p, q) | Process::Par(p, q) => {
             inputs(at, label, depth, scope, p) + inputs(at, label, depth, scope, q)
         }
-        Process::Par(p, q) => {
-            inputs(at, label, depth, scope, p) + inputs(at, label, depth, scope, q)
-        }
-        Process::Call(c) => match callee(at.definitions, depth, *c) {
+        Process::Call(c) => match at.bodies.callee(depth, *c) {
             Some(body) => inputs(at, label, depth - 1, &at.unbound, body),
             None => 0,
         },
+        Process::Nil | Process::Output(_, _, _) => 0,
     }
 }

@@ -1,17 +1,17 @@
 ghost use Rattle.std.specs.Prelude.{◌≡◌, [], length};
 ghost use Rattle.std.specs.List.{zip};
-ghost use Rattle.abc_value.specs.Values.{seen, number_value};
-ghost use Rattle.abc_pred.specs.Maps.{look_up};
-ghost use Rattle.abc_pred.specs.Meaning.{val, sat};
-ghost use Rattle.abc_pred.specs.Standing.{operand_of, pred_of};
+ghost use Rattle.abc_value.specs.Values.{seen};
+ghost use Rattle.abc_pred.specs.Meaning.{sat};
+ghost use Rattle.abc_pred.specs.Standing.{pred_of};
 ghost use Rattle.abc_term.specs.Substitution.{put_pred, outside};
 ghost use Rattle.abc_moves.specs.Hears.{inside, IsItsValue};
 
 use crate::scope::Scope;
-use abc_pred::{Env, Name, Operand, Pred};
-use abc_value::{Value, View, add, holds, least_free, less, mul, same, size, sub};
+use abc_pred::{Env, Name, Pred, Seen, Variables, sat};
+use abc_value::{Value, View};
 
-/// What an input's predicate reads of a message and of its own component, without memory.
+/// What an input's variables stand for while a message is tested: its own for the message's values, and
+/// all others for what is bound outside. Nothing is copied.
 #[derive(Drop)]
 pub struct Heard<'a> {
     /// The input's variables.
@@ -20,9 +20,7 @@ pub struct Heard<'a> {
     pub values: &'a [Value],
     /// What is bound outside the input.
     pub scope: &'a Scope,
-    pub own: &'a Env,
-    /// What the message shows of its sender.
-    pub shown: &'a Env,
+    ghost as_many: { length xs.now ≡ length values.now },
 }
 
 /// The value of the first of these variables that has the name; none where there is no such.
@@ -41,71 +39,29 @@ fn first<'a>(xs: &[Name], values: &'a [Value], x: Name) -> Option<View<'a>>
     None
 }
 
-impl<'a> Heard<'a> {
-    /// The value of a variable.
-    fn variable(&self, x: Name) -> View<'a>
-        requires { length self.now.xs.now ≡ length self.now.values.now }
-        ensures { seen result ≡ look_up (inside self.now.xs.now self.now.values.now self.now.scope.now) x }
-    {
+impl Variables for Heard<'_> {
+    ghost bound = { λ h. inside h.xs.now h.values.now h.scope.now };
+
+    fn value(&self, x: Name) -> View<'_> {
         match first(self.xs, self.values, x) {
             Some(value) => value,
             None => self.scope.get(x),
         }
     }
-
-    /// The value of an operand: `a` is the sender's, `this.a` the component's own.
-    fn look(&self, o: &'a Operand) -> View<'a>
-        requires { length self.now.xs.now ≡ length self.now.values.now }
-        ensures { seen result
-            ≡ val (operand_of o.now) self.now.own.now self.now.shown.now (inside self.now.xs.now self.now.values.now self.now.scope.now) }
-    {
-        match o {
-            Operand::Literal(v) => v.view(),
-            Operand::Attr(a) => self.shown.get(*a),
-            Operand::This(a) => self.own.get(*a),
-            Operand::Var(x) => self.variable(*x),
-            Operand::Add(l, r) => number(add(self.look(l), self.look(r))),
-            Operand::Sub(l, r) => number(sub(self.look(l), self.look(r))),
-            Operand::Mul(l, r) => number(mul(self.look(l), self.look(r))),
-            Operand::Size(o) => number(size(self.look(o))),
-            Operand::Free(o) => number(least_free(self.look(o))),
-        }
-    }
-
-    /// Whether the predicate holds.
-    fn sat(&self, p: &'a Pred) -> bool
-        requires { length self.now.xs.now ≡ length self.now.values.now }
-        ensures { result
-            ≡ sat (pred_of p.now) self.now.own.now self.now.shown.now (inside self.now.xs.now self.now.values.now self.now.scope.now) }
-    {
-        match p {
-            Pred::True => true,
-            Pred::False => false,
-            Pred::Same(l, r) => same(self.look(l), self.look(r)),
-            Pred::Less(l, r) => less(self.look(l), self.look(r)),
-            Pred::Member(l, r) => holds(self.look(l), self.look(r)),
-            Pred::Not(p) => !self.sat(p),
-            Pred::And(p, q) => self.sat(p) && self.sat(q),
-            Pred::Or(p, q) => self.sat(p) || self.sat(q),
-        }
-    }
-
-    /// Whether the sender's interface satisfies the input's predicate, with the message's values.
-    pub fn is_wanted(&self, p: &'a Pred) -> bool
-        requires { length self.now.xs.now ≡ length self.now.values.now }
-        ensures { result
-            ≡ sat (put_pred (zip self.now.xs.now self.now.values.now) (put_pred (outside self.now.xs.now self.now.scope.now) (pred_of p.now)))
-            self.now.own.now self.now.shown.now [] }
-    {
-        self.sat(p)
-    }
 }
 
-fn number<'a>(n: Option<i64>) -> View<'a>
-    ensures { seen result ≡ number_value n }
-{
-    match n {
-        Some(n) => View::Number(n),
-        None => View::Nothing,
+impl Heard<'_> {
+    /// Whether the attributes that the message shows satisfy the input's predicate, with the message's
+    /// values.
+    pub fn is_wanted(&self, p: &Pred, own: &Env, shown: &Env) -> bool
+        ensures { result
+            ≡ sat (put_pred (zip self.now.xs.now self.now.values.now) (put_pred (outside self.now.xs.now self.now.scope.now) (pred_of p.now)))
+            own.now shown.now [] }
+    {
+        let sender = Seen {
+            env: shown,
+            shown: None,
+        };
+        sat(p, own, sender, self)
     }
 }

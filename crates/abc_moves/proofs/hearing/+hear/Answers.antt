@@ -1,24 +1,22 @@
-use Rattle.std.proofs.Common.{◌∙◌, ◌-◌, ◌<◌, ap, rules}
+use Rattle.std.proofs.Common.{◌-◌, ap, sym}
 use Rattle.std.proofs.lemmas.Result.{IfOk-weaker}
-use Rattle.abc_term.specs.Standing.{process_of, definitions_of}
+use Rattle.abc_term.specs.Standing.{process_of}
+use Rattle.abc_term.specs.Substitution.{put}
 use Rattle.abc_moves.specs.Labels.{label_of}
 use Rattle.abc_moves.specs.Trees.{process_in}
-use Rattle.abc_moves.specs.Walks.{parts_at}
-use Rattle.abc_moves.proofs.Unfolded.{ins_called, parts_called, takes_called}
+use Rattle.abc_moves.specs.Arounds.{definitions_around, ins_here, TakesHere, env_after}
+use Rattle.abc_moves.proofs.Coming.{comes_to}
+use Rattle.abc_moves.proofs.Unfolded.{ins_called, takes_called}
 use Rattle.abc_moves.proofs.hearing.+hear.Goals as goal
-
-pub hear-requires-in-Some : goal.hear-requires-in-Some
-hear-requires-in-Some t c =
-    let at = c.args.at.now in let defs = definitions_of at.definitions.now in let e = c.in-Some.ensures in
-    let called = ap process_of c.in-Call.is in
-    let falls : parts_at (c.args.depth - 1) defs (process_of c.in-Some.body.now) < parts_at c.args.depth defs (process_of c.args.p.now) =
-    parts_called c.args.depth defs c.in-Call.c (process_of c.args.p.now) (process_of c.in-Some.body.now) e.0 e.1 called in
-    let same = ins_called c.args.depth defs (label_of c.args.label.now) at.env.now at.interface.now c.in-Call.c c.args.scope.now at.unbound (process_of c.args.p.now) (process_of c.in-Some.body.now) e.0 e.1 at.binds_nothing called in
-    (search (rules, falls), (c.requires.total ∙ same, c.requires.among))
 
 pub returns-in-Some : goal.returns-in-Some
 returns-in-Some t c =
-    let at = c.args.at.now in let defs = definitions_of at.definitions.now in let e = c.in-Some.ensures in
+    let at = c.args.at.now in let defs = definitions_around at in let e = c.in-Some.ensures in
+    let l = label_of c.args.label.now in
+    let d = c.args.depth in let k = c.args.place in let here = put c.args.scope.now (process_of c.args.p.now) in
+    let there = put at.unbound (process_of c.in-Some.body.now) in let called = ap process_of c.in-Call.is in
     IfOk-weaker c.hear-in-Some.result _ _
-    (λ s h. takes_called c.args.depth defs (label_of c.args.label.now) at.env.now at.interface.now c.in-Call.c c.args.scope.now at.unbound (process_of c.args.p.now) (process_of c.in-Some.body.now) c.args.place s.env (process_in s.tree) e.0 e.1 at.binds_nothing (ap process_of c.in-Call.is) h)
+    (λ w h. comes_to (λ s. TakesHere at l (d - 1) there k s.env (process_in s.tree)) (λ s. TakesHere at l d here k s.env (process_in s.tree)) k (ins_here at l (d - 1) there) (ins_here at l d here)
+    (λ s takes. takes_called d defs l at.env.now at.interface.now c.in-Call.c c.args.scope.now at.unbound (process_of c.args.p.now) (process_of c.in-Some.body.now) k (env_after at s.env) (process_in s.tree) e.0 e.1 at.binds_nothing called takes)
+    (sym (ins_called d defs l at.env.now at.interface.now c.in-Call.c c.args.scope.now at.unbound (process_of c.args.p.now) (process_of c.in-Some.body.now) e.0 e.1 at.binds_nothing called)) w h)
     c.hear-in-Some.ensures

@@ -1,24 +1,21 @@
-use Rattle.std.proofs.Common.{◌∙◌, ◌-◌, ◌<◌, ap, rules}
+use Rattle.std.proofs.Common.{◌-◌, ap, sym}
 use Rattle.std.proofs.lemmas.Result.{IfOk-weaker}
-use Rattle.abc_term.specs.Standing.{process_of, definitions_of}
+use Rattle.abc_term.specs.Standing.{process_of}
+use Rattle.abc_term.specs.Substitution.{put}
 use Rattle.abc_moves.specs.Labels.{label_of}
 use Rattle.abc_moves.specs.Trees.{process_in}
-use Rattle.abc_moves.specs.Walks.{parts_at}
-use Rattle.abc_moves.proofs.Unfolded.{outs_called, parts_called, says_called}
+use Rattle.abc_moves.specs.Arounds.{definitions_around, outs_here, SaysHere, env_after}
+use Rattle.abc_moves.proofs.Coming.{comes_to}
+use Rattle.abc_moves.proofs.Unfolded.{outs_called, says_called}
 use Rattle.abc_moves.proofs.speaking.+speak.Goals as goal
-
-pub speak-requires-in-Some : goal.speak-requires-in-Some
-speak-requires-in-Some t c =
-    let at = c.args.at.now in let defs = definitions_of at.definitions.now in let e = c.in-Some.ensures in
-    let called = ap process_of c.in-Call.is in
-    let falls : parts_at (c.args.depth - 1) defs (process_of c.in-Some.body.now) < parts_at c.args.depth defs (process_of c.args.p.now) =
-    parts_called c.args.depth defs c.in-Call.c (process_of c.args.p.now) (process_of c.in-Some.body.now) e.0 e.1 called in
-    let same = outs_called c.args.depth defs at.env.now c.in-Call.c c.args.scope.now at.unbound (process_of c.args.p.now) (process_of c.in-Some.body.now) e.0 e.1 at.binds_nothing called in
-    (search (rules, falls), (c.requires.total ∙ same, c.requires.among))
 
 pub returns-in-Some : goal.returns-in-Some
 returns-in-Some t c =
-    let at = c.args.at.now in let defs = definitions_of at.definitions.now in let e = c.in-Some.ensures in
+    let at = c.args.at.now in let defs = definitions_around at in let e = c.in-Some.ensures in
+    let d = c.args.depth in let k = c.args.place in let here = put c.args.scope.now (process_of c.args.p.now) in
+    let there = put at.unbound (process_of c.in-Some.body.now) in let called = ap process_of c.in-Call.is in
     IfOk-weaker c.speak-in-Some.result _ _
-    (λ s h. says_called c.args.depth defs at.env.now at.interface.now c.in-Call.c c.args.scope.now at.unbound (process_of c.args.p.now) (process_of c.in-Some.body.now) c.args.place (label_of s.label) s.env (process_in s.tree) e.0 e.1 at.binds_nothing (ap process_of c.in-Call.is) h)
+    (λ w h. comes_to (λ s. SaysHere at (d - 1) there k (label_of s.said) s.env (process_in s.tree)) (λ s. SaysHere at d here k (label_of s.said) s.env (process_in s.tree)) k (outs_here at (d - 1) there) (outs_here at d here)
+    (λ s says. says_called d defs at.env.now at.interface.now c.in-Call.c c.args.scope.now at.unbound (process_of c.args.p.now) (process_of c.in-Some.body.now) k (label_of s.said) (env_after at s.env) (process_in s.tree) e.0 e.1 at.binds_nothing called says)
+    (sym (outs_called d defs at.env.now c.in-Call.c c.args.scope.now at.unbound (process_of c.args.p.now) (process_of c.in-Some.body.now) e.0 e.1 at.binds_nothing called)) w h)
     c.speak-in-Some.ensures

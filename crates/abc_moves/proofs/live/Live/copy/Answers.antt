@@ -1,23 +1,21 @@
-use Rattle.std.proofs.Common.{◌≡◌, refl}
-use Rattle.abc_moves.specs.Trees.{parts, process_in}
-use Rattle.abc_moves.proofs.Interfaces.{set-of, same-set}
+use Rattle.std.proofs.Common.{◌≡◌, ◌∙◌, ℕ, List, nat_eq, subst, sym}
+use Rattle.std.specs.HashMap.{get}
+use Rattle.abc_term.specs.Standing.{definitions_of}
+use Rattle.abc_term.specs.Speaking.{outs}
+use Rattle.abc_moves.specs.States.{component_at}
+use Rattle.abc_moves.specs.Bodies.{place_from}
 use Rattle.abc_moves.proofs.Sounding.{same_sound}
 use Rattle.abc_moves.proofs.live.Live.copy.Goals as goal
 
 pub invariant_of-result : goal.invariant_of-result
-invariant_of-result c = record {
-  shows = set-of c.args.self.now.show.now c.args.self.now.show.now c.in_ok-interface.interface refl c.in_ok-interface.ensures.names c.in_ok-interface.ensures.set;
-  sound =
-      let self = c.args.self.now in
-      same_sound self.definitions.now (parts self.env self.interface self.tree) (parts c.in_ok-env.env c.in_ok-interface.interface c.in_ok-tree.tree) c.in_ok-tree.ensures self.sound;
-}
-
-pub returns : goal.returns
-returns c =
-    let self = c.args.self.now in
-    let shown : c.in_ok-interface.interface ≡ self.interface = same-set self.show.now self.show.now c.in_ok-interface.interface self.interface self.shows refl c.in_ok-interface.ensures.names c.in_ok-interface.ensures.set in
-    let process : process_in c.in_ok-tree.tree ≡ process_in self.tree = c.in_ok-tree.ensures in
+invariant_of-result c =
+    let self = c.args.self.now in let old = component_at self.state self.fixed.interface in
+    let new = component_at c.in_ok-state.state c.in_ok-interface.interface in
+    let is = c.in_ok-state.ensures in
     record {
-      component = λ i. record { env = c.in_ok-env.ensures i; interface = shown i; process = process i };
-      program = refl;
+      finds = λ n. (λ i. get nat_eq (c.in_ok-first.ensures i) n) ∙ self.finds n;
+      counted =
+          is.outputs ∙ self.counted
+          ∙ (λ i. outs (definitions_of self.definitions.now) (record { env = sym is.env i; interface = sym c.in_ok-interface.ensures i; process = sym is.process i }));
+      sound = same_sound self.definitions.now old new is.process self.sound;
     }

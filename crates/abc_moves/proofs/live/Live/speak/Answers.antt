@@ -1,26 +1,31 @@
-use Rattle.std.proofs.Common.{arith}
+use Rattle.std.proofs.Common.{◌≡◌, ◌∙◌, List, ap, subst, sym}
+use Rattle.abc_term.specs.declared.terms.Definition.{Definition}
+use Rattle.abc_term.specs.Processes.{Component}
+use Rattle.abc_term.specs.Speaking.{Speaks, outs}
+use Rattle.abc_term.specs.Standing.{definitions_of}
+use Rattle.abc_moves.specs.declared.label.Label.{Label}
 use Rattle.abc_moves.specs.Labels.{label_of}
-use Rattle.abc_moves.specs.Trees.{parts}
-use Rattle.abc_moves.specs.Lives.{component_in}
-use Rattle.abc_moves.proofs.Sounding.{few_outputs, spoken_sound, same_sound}
+use Rattle.abc_moves.specs.Sounds.{IsSoundUnder}
+use Rattle.abc_moves.specs.States.{component_at}
+use Rattle.abc_moves.proofs.Either.{either-way}
+use Rattle.abc_moves.proofs.Sounding.{spoken_sound, same_sound}
 use Rattle.abc_moves.proofs.live.Live.speak.Goals as goal
 
-pub spoken-requires-clause-fits : goal.spoken-requires-clause-fits
-spoken-requires-clause-fits c =
-    let self = c.args.self.now in let few = few_outputs self.definitions.now (component_in self) self.sound in omega arith
-
-pub invariant_of-self-2 : goal.invariant_of-self-2
-invariant_of-self-2 c =
-    let self = c.args.self.now in let said = c.in_ok-label.field-0 in
-    record {
-      shows = self.shows;
-      sound = spoken_sound self.definitions.now (component_in self) self.sound c.args.place (label_of said.label) (parts said.env self.interface c.spoken.new.tree) c.in_ok-label.ensures.ok;
-    }
+pub spoken-requires-clause-sound : goal.spoken-requires-clause-sound
+spoken-requires-clause-sound c =
+    let self = c.args.self.now in
+    subst (λ (ds : List Definition). ∥ IsSoundUnder ds (component_at self.state self.fixed.interface) ∥₁) (sym c.bodies_of-bodies.ensures) self.sound
 
 pub invariant_of-self : goal.invariant_of-self
 invariant_of-self c =
-    let self = c.args.self.now in
+    let self = c.args.self.now in let old = component_at self.state self.fixed.interface in let now = component_at c.spoken.new.state self.fixed.interface in
+    let ds = c.bodies_of-bodies.result.definitions.now in
+    let begun = subst (λ (xs : List Definition). ∥ IsSoundUnder xs old ∥₁) (sym c.bodies_of-bodies.ensures) self.sound in
     record {
-      shows = self.shows;
-      sound = same_sound self.definitions.now (component_in self) (parts self.env self.interface c.spoken.new.tree) c.in_err-label.ensures.err self.sound;
+      finds = self.finds;
+      counted = c.spoken.ensures.counted ∙ ap (λ (xs : List Definition). outs (definitions_of xs) now) c.bodies_of-bodies.ensures;
+      sound = subst (λ (xs : List Definition). ∥ IsSoundUnder xs now ∥₁) c.bodies_of-bodies.ensures
+          (either-way (∥ IsSoundUnder ds now ∥₁) (λ (l : Label). Speaks (definitions_of ds) old c.args.place (label_of l) now) (now ≡ old) c.spoken.result
+          (λ l says. spoken_sound ds old begun c.args.place (label_of l) now says)
+          (λ same. same_sound ds old now (ap (λ (C : Component). C.process) same) begun) c.spoken.ensures.ok c.spoken.ensures.err);
     }

@@ -1,16 +1,15 @@
-use Rattle.std.proofs.Common.{◌≡◌, ◌∙◌, []}
-use Rattle.abc_moves.specs.Scopes.{bind_from}
+use Rattle.std.proofs.Common.{◌≡◌, ◌∙◌}
 use Rattle.abc_moves.proofs.Scoped.{scope_copied, values_copied}
 use Rattle.abc_moves.proofs.scope.Scope.copy.Goals as goal
 
 pub scope_of-requires : goal.scope_of-requires
 scope_of-requires c =
-    scope_copied c.self.inside.bound c.in_ok-bound.bound c.self.inside.vars c.in_ok-vars.vars c.self.invariant (cc (c.in_ok-bound.ensures, c.as_slice.ensures))
-    (let e : c.in_ok-vars.vars ≡ bind_from c.self.inside.bound c.self.inside.vars [] = cc (c.in_ok-vars.ensures, c.as_slice-2.ensures) in e)
+    scope_copied c.self.inside.bound c.in_ok-bound.bound c.self.inside.vars c.in_ok-vars.vars c.self.invariant
+    (cc (c.in_ok-bound.ensures, c.as_slice.ensures)) c.in_ok-vars.ensures
 
 pub returns : goal.returns
 returns c =
     c.scope_of.ensures
-    ∙ values_copied c.self.inside.bound c.in_ok-bound.bound c.self.inside.vars c.in_ok-vars.vars c.self.invariant (cc (c.in_ok-bound.ensures, c.as_slice.ensures))
-    (let e : c.in_ok-vars.vars ≡ bind_from c.self.inside.bound c.self.inside.vars [] = cc (c.in_ok-vars.ensures, c.as_slice-2.ensures) in e)
+    ∙ values_copied c.self.inside.bound c.in_ok-bound.bound c.self.inside.vars c.in_ok-vars.vars
+    (cc (c.in_ok-bound.ensures, c.as_slice.ensures)) c.in_ok-vars.ensures
     ∙ c.self.view_is
