@@ -1,9 +1,8 @@
 -- The names that a text's terms hold are numbers of its words.
-use Rattle.std.proofs.Common.{◌≡◌, ℕ, zero, suc, ◌<◌, List, [], ◌∷◌, ◌++◌, length, map, Option, Some, None, refl, sym, ap, ◌∙◌, subst, arith}
+use Rattle.std.proofs.Common.{ℕ, zero, suc, List, [], ◌∷◌, ◌++◌, length, Option, Some, None, sym, subst, arith}
 use Rattle.std.specs.Prelude.{All}
 use Rattle.std.specs.Option.{option_map}
 use Rattle.std.proofs.lemmas.List.Elements.{All-append}
-use Rattle.abc_value.specs.declared.scalar.Scalar.{Scalar}
 use Rattle.abc_value.specs.declared.value.Value.{Value}
 use Rattle.abc_pred.specs.declared.names.Name.{Name}
 use Rattle.abc_pred.specs.Terms.{Operand, Expr, Pred}
@@ -15,10 +14,9 @@ use Rattle.abc_grammar.specs.declared.lexemes.Lexeme.{Lexeme}
 use Rattle.abc_grammar.specs.declared.lexemes.Lexeme.TheVariants as l
 use Rattle.abc_grammar.specs.declared.lexemes.Mark.TheVariants as m
 use Rattle.abc_grammar.specs.declared.lexemes.Keyword.TheVariants as k
-use Rattle.abc_grammar.specs.Lexemes.{name_in, lexeme_of, lexemes_of, name_of}
+use Rattle.abc_grammar.specs.Lexemes.{name_in, lexemes_of, name_of}
 use Rattle.abc_grammar.specs.Listed.{AreListed, MayBeListed, AreRepeated, IsName, IsVariable}
 use Rattle.abc_grammar.specs.Listed as listed
-use Rattle.abc_grammar.specs.Literals.{IsLiteral}
 use Rattle.abc_grammar.specs.Operands.{IsOperand, IsProduct, IsAtom}
 use Rattle.abc_grammar.specs.Operands as o
 use Rattle.abc_grammar.specs.Exprs.{IsExpr}

@@ -6,3 +6,5 @@ pub mod Meeting
 pub mod Places
 pub mod Shorts
 pub mod Below
+pub mod Walks
+pub mod NoneTooMany

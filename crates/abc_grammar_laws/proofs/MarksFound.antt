@@ -1,5 +1,5 @@
 -- What the marks of a text of the grammar stand for.
-use Rattle.std.proofs.Common.{◌≡◌, ℕ, zero, suc, ◌+◌, ◌-◌, ◌⊎◌, inl, inr, List, [], ◌∷◌, ◌++◌, refl, sym, ap, ◌∙◌, subst, append_assoc, arith}
+use Rattle.std.proofs.Common.{◌≡◌, ℕ, zero, suc, ◌⊎◌, inl, inr, List, [], ◌∷◌, ◌++◌, refl, sym, ap, ◌∙◌, subst, append_assoc, arith}
 use Rattle.abc_value.specs.declared.scalar.Scalar.{Scalar}
 use Rattle.abc_value.specs.declared.value.Value.{Value}
 use Rattle.abc_pred.specs.declared.names.Name.{Name}
@@ -24,7 +24,7 @@ use Rattle.abc_grammar.specs.Laws.{Balanced}
 use Rattle.abc_grammar.proofs.Balance.{open_behind-append, listed_balance, optional_balance, scalar_balance, expr_balance, pred_balance, variable_balance}
 use Rattle.abc_grammar.proofs.PredRuns.{pred_came}
 use Rattle.abc_grammar.proofs.ProcessRuns.{process_came}
-use Rattle.abc_grammar_laws.specs.Marks.{FollowsAt, EndsTuple, EndsPred, ClosesSet, MarksStand}
+use Rattle.abc_grammar_laws.specs.Marks.{EndsTuple, EndsPred, ClosesSet, MarksStand}
 use Rattle.abc_grammar_laws.proofs.Splits.{Splits, same, first, second, splits, cons_both, last_both, same_bracket}
 use Rattle.abc_grammar_laws.proofs.Cuts.{First, alone, with_more, first_of}
 use Rattle.abc_grammar_laws.proofs.Around.{Dotted, own, output, input, Opened, literal, braced, component, token_at}

@@ -1,5 +1,5 @@
 -- No token begins a part of a tuple and a scalar of a set literal that are both one too many.
-use Rattle.std.proofs.Common.{◌≡◌, ℕ, List, [], ◌∷◌, ◌++◌, refl, sym, ◌∙◌, take}
+use Rattle.std.proofs.Common.{◌≡◌, List, [], ◌∷◌, ◌++◌, refl, sym, ◌∙◌, take}
 use Rattle.abc_grammar.specs.declared.lexemes.Lexeme.{Lexeme}
 use Rattle.abc_grammar.specs.declared.lexemes.Lexeme.TheVariants as l
 use Rattle.abc_grammar.specs.declared.lexemes.Mark.TheVariants as m

@@ -1,7 +1,6 @@
 -- The limits of tuples and of set literals, as what an accepted text gives.
-use Rattle.std.specs.Prelude.{◌≡◌, ℕ, ◌≤◌, List, [], ◌∷◌, ◌++◌, length, All}
+use Rattle.std.specs.Prelude.{◌≡◌, ◌⊎◌, ℕ, ◌≤◌, List, ◌∷◌, ◌++◌, length, All}
 use Rattle.abc_value.specs.declared.scalar.Scalar.{Scalar}
-use Rattle.abc_pred.specs.declared.names.Name.{Name}
 use Rattle.abc_text.specs.declared.lexical.Token.{Token}
 use Rattle.abc_term.specs.Processes.{Process, Nil, Output, Input, When, Choice, Par, Call}
 use Rattle.abc_term.specs.declared.terms.Program.{Program}
@@ -12,6 +11,9 @@ use Rattle.abc_grammar.specs.declared.limits.TheConstants.{MOST_PARTS, MOST_WRIT
 use Rattle.abc_grammar.specs.Listed.{AreListed}
 use Rattle.abc_grammar.specs.Literals.{IsScalar}
 use Rattle.abc_grammar.specs.Plain.{PlainProgram, plain_program}
+use Rattle.abc_grammar.specs.Programs.{IsProgram}
+use Rattle.abc_grammar.specs.Limits.{BeginsExtraExpr, BeginsExtraVariable}
+use Rattle.abc_grammar.specs.Refusals.{IsSomeProgram}
 use Rattle.abc_grammar.specs.Accepted.{IsAccepted}
 
 -- each output has at most so many expressions, and each input so many variables
@@ -38,3 +40,9 @@ SetsAreShort =
     (bytes : List ℕ) (ts : List Token) (p : Program) (h : IsAccepted bytes ts p) →
     (before parts after : List Lexeme) (scalars : List Scalar) → AreListed IsScalar parts scalars →
     h.text.lexemes ≡ before ++ l.Mark m.OpenCurly ∷ parts ++ after → length scalars ≤ MOST_WRITTEN
+
+-- Conversely no token begins a part too many in a text of the grammar whose tuples are short.
+abbrev pub NoneTooMany : Type 0
+NoneTooMany =
+    (ts : List Lexeme) (p : PlainProgram) → IsProgram ts p → AreShort p → (k : ℕ) →
+    ¬ (BeginsExtraExpr IsSomeProgram ts k ⊎ BeginsExtraVariable IsSomeProgram ts k)

@@ -1,5 +1,5 @@
 //! The laws, each the contract of a function that does nothing.
-ghost use Rattle.abc_grammar_laws.specs.Short.{TuplesAreShort, SetsAreShort};
+ghost use Rattle.abc_grammar_laws.specs.Short.{TuplesAreShort, SetsAreShort, NoneTooMany};
 ghost use Rattle.abc_grammar_laws.specs.Numbered.{NamesAreNumbered};
 ghost use Rattle.abc_grammar_laws.specs.Marks.{MarksStand};
 ghost use Rattle.abc_grammar_laws.specs.Meeting.{LimitsMeet};
@@ -26,4 +26,10 @@ pub fn marks_stand()
 /// No token begins a ninth expression or variable and a 257th scalar at once.
 pub fn limits_meet()
     ensures { LimitsMeet }
+{}
+
+/// In a text of the grammar whose outputs have at most eight expressions each, and its inputs at most eight
+/// variables, no token begins an expression or a variable too many.
+pub fn short_tuples_pass_no_limit()
+    ensures { NoneTooMany }
 {}

@@ -4,4 +4,6 @@
 
 mod laws;
 
-pub use laws::{limits_hold, limits_meet, marks_stand, names_are_numbered};
+pub use laws::{
+    limits_hold, limits_meet, marks_stand, names_are_numbered, short_tuples_pass_no_limit,
+};
