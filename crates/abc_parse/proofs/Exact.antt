@@ -13,10 +13,10 @@ use Rattle.abc_grammar.proofs.OneRefusal.{order-lexical}
 use Rattle.abc_reading.specs.Reading.{Read, Cut, Refused}
 use Rattle.abc_reading.proofs.Laws.{first, Owes}
 use Rattle.abc_reading.proofs.Chain.{Reaches}
-use Rattle.abc_parse.specs.Operands.{Tokens, Reading}
-use Rattle.abc_parse.specs.Preds.{pred}
-use Rattle.abc_parse.proofs.PredReads.{pred_reads}
-use Rattle.abc_parse.proofs.PredWhole.{pred_reach}
+use Rattle.abc_readers.specs.Operands.{Tokens, Reading}
+use Rattle.abc_readers.specs.Preds.{pred}
+use Rattle.abc_readers.proofs.PredReads.{pred_reads}
+use Rattle.abc_readers.proofs.PredWhole.{pred_reach}
 
 -- ---- fronts of lists
 cons_inj : {x y : Lexeme} {us vs : Tokens} → ◌≡◌ {A = Tokens} (x ∷ us) (y ∷ vs) → (x ≡ y) × (us ≡ vs)

@@ -5,10 +5,10 @@ use Rattle.abc_cause.specs.declared.Cause.TheVariants.{Syntax}
 use Rattle.abc_grammar.specs.Operands.{IsOperand}
 use Rattle.abc_reading.specs.Reading.{mapped, join, joined}
 use Rattle.abc_reading.proofs.Chain.{Leaves, reads_leaves, joined-step}
-use Rattle.abc_parse.specs.Operands.{Tokens, alone, commas}
-use Rattle.abc_parse.specs.Exprs.{whole_operand}
-use Rattle.abc_parse.proofs.OperandReads.{Alone, alone_reads}
-use Rattle.abc_parse.proofs.ExprReads.{whole_operand_reads, expr-eq}
+use Rattle.abc_readers.specs.Operands.{Tokens, alone, commas}
+use Rattle.abc_readers.specs.Exprs.{whole_operand}
+use Rattle.abc_readers.proofs.OperandReads.{Alone, alone_reads}
+use Rattle.abc_readers.proofs.ExprReads.{whole_operand_reads, expr-eq}
 
 item_leaves : Leaves (λ us. mapped alone (whole_operand us))
 item_leaves = reads_leaves (Alone IsOperand whole_operand whole_operand_reads) (λ us. mapped alone (whole_operand us)) (alone_reads IsOperand whole_operand whole_operand_reads)

@@ -16,8 +16,8 @@ use Rattle.abc_reading.specs.Reading.{Refused}
 use Rattle.abc_reading.proofs.Laws.{first}
 use Rattle.abc_parse.specs.declared.front.Tried.TheVariants as tried
 use Rattle.abc_parse.specs.declared.front.Front.TheVariants as front
-use Rattle.abc_parse.specs.Operands.{Tokens}
-use Rattle.abc_parse.specs.Preds.{pred}
+use Rattle.abc_readers.specs.Operands.{Tokens}
+use Rattle.abc_readers.specs.Preds.{pred}
 use Rattle.abc_parse.specs.Limiting.{start, first_limit}
 use Rattle.abc_parse.specs.Fronting.{IsTried, IsFrontOf}
 use Rattle.abc_parse.proofs.LimitLaws.{first_none, first_some, passes_limit, passes_none, passes_first}

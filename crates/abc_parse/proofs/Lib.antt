@@ -1,7 +1,3 @@
-pub mod OperandReads
-pub mod OperandWhole
-pub mod PredReads
-pub mod PredWhole
 pub mod Steps
 pub mod Written
 pub mod NoTuples
@@ -11,7 +7,5 @@ pub mod Fronts
 pub mod Naming
 pub mod Texts
 pub mod Begins
-pub mod ExprReads
-pub mod ExprWhole
 pub mod ExprSteps
 pub mod Tuples

@@ -10,11 +10,11 @@ use Rattle.abc_grammar.specs.declared.lexemes.Keyword.TheVariants as k
 use Rattle.abc_reading.specs.Reading.{Read, Cut, Refused, mapped, join, joined}
 use Rattle.abc_reading.proofs.Chain.{Leaves, reads_leaves, joined-step}
 use Rattle.abc_parse.specs.Answers.{HasNoNot, after_nots, PassesNots}
-use Rattle.abc_parse.specs.Operands.{Tokens, Reading, scalar, alone, commas, atom, stars, product, signs}
-use Rattle.abc_parse.specs.Preds.{plain, nots, test, ands, both, ors}
-use Rattle.abc_parse.proofs.OperandReads.{Alone, alone_reads, scalar_reads}
-use Rattle.abc_parse.proofs.OperandWhole.{atom_leaves, product_leaves}
-use Rattle.abc_parse.proofs.PredWhole.{test_leaves, both_leaves}
+use Rattle.abc_readers.specs.Operands.{Tokens, Reading, scalar, alone, commas, atom, stars, product, signs}
+use Rattle.abc_readers.specs.Preds.{plain, nots, test, ands, both, ors}
+use Rattle.abc_readers.proofs.OperandReads.{Alone, alone_reads, scalar_reads}
+use Rattle.abc_readers.proofs.OperandWhole.{atom_leaves, product_leaves}
+use Rattle.abc_readers.proofs.PredWhole.{test_leaves, both_leaves}
 
 scalar_leaves : Leaves (λ us. mapped alone (scalar us))
 scalar_leaves = reads_leaves (Alone IsScalar scalar scalar_reads) (λ us. mapped alone (scalar us)) (alone_reads IsScalar scalar scalar_reads)

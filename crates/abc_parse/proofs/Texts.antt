@@ -1,5 +1,5 @@
 -- The tokens of a text are no more than its bytes, and its bad token is bad for a lexical cause.
-use Rattle.std.proofs.Common.{◌≡◌, ℕ, ◌≤◌, List, [], ◌∷◌, length, Option, Some, None, length-drop, arith}
+use Rattle.std.proofs.Common.{ℕ, ◌≤◌, List, [], ◌∷◌, length, Option, Some, None, length-drop, arith}
 use Rattle.abc_text.specs.declared.lexical.Token.{Token}
 use Rattle.abc_text.specs.declared.lexical.Fault.{Fault}
 use Rattle.abc_text.specs.declared.lexical.Before.{Before}

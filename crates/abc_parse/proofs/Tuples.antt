@@ -19,14 +19,14 @@ use Rattle.abc_reading.proofs.Chain.{Leaves, reads_leaves, joined-step}
 use Rattle.abc_reading.proofs.Steps.{joins_on, joins_no_more}
 use Rattle.abc_parse.specs.declared.parser.Stop.{Stop}
 use Rattle.abc_parse.specs.declared.parser.Stop.TheVariants as stop
-use Rattle.abc_parse.specs.Operands.{Tokens, Reading, listed, alone, commas}
-use Rattle.abc_parse.specs.Exprs.{whole_expr, expr}
-use Rattle.abc_parse.specs.Laws.{EndsOperand}
+use Rattle.abc_readers.specs.Operands.{Tokens, Reading, listed, alone, commas}
+use Rattle.abc_readers.specs.Exprs.{whole_expr, expr}
+use Rattle.abc_readers.specs.Laws.{EndsOperand}
 use Rattle.abc_parse.specs.Tuples.{exprs, Refuses, StartsExpr, IsLead, IsAmongEight, AnswersExprs, IsOneMore, IsNinthStop, EndsExprs, ListsAreRead}
-use Rattle.abc_parse.proofs.OperandReads.{Alone, alone_reads, listed_reads}
-use Rattle.abc_parse.proofs.OperandWhole.{listed_ends}
-use Rattle.abc_parse.proofs.ExprReads.{whole_reads, expr_reads}
-use Rattle.abc_parse.proofs.ExprWhole.{expr_ends}
+use Rattle.abc_readers.proofs.OperandReads.{Alone, alone_reads, listed_reads}
+use Rattle.abc_readers.proofs.OperandWhole.{listed_ends}
+use Rattle.abc_readers.proofs.ExprReads.{whole_reads, expr_reads}
+use Rattle.abc_readers.proofs.ExprWhole.{expr_ends}
 
 pub whole_expr_reads : Reads IsExpr whole_expr
 unfolding whole_expr

@@ -8,7 +8,7 @@ use Rattle.abc_parse.specs.declared.parser.Part.{Part}
 use Rattle.abc_parse.specs.declared.parser.Part.TheVariants as part
 use Rattle.abc_grammar.specs.declared.lexemes.Lexeme.TheVariants as l
 use Rattle.abc_grammar.specs.declared.lexemes.Keyword.TheVariants as k
-use Rattle.abc_parse.specs.Operands.{Tokens, Reading}
+use Rattle.abc_readers.specs.Operands.{Tokens, Reading}
 
 -- A term that is read whole or refused. `view` is what the program's term stands for, and `rest` what is
 -- left, from the refused token on where it is refused. Want of memory says nothing.

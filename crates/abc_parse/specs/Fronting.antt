@@ -7,8 +7,8 @@ use Rattle.abc_grammar.specs.declared.lexemes.Lexeme.{Lexeme}
 use Rattle.abc_grammar.specs.Refusals.{end_cause, HasLexical, IsFirstOfPred}
 use Rattle.abc_grammar.specs.Fronts.{IsLongest, HasNoFront}
 use Rattle.abc_reading.specs.Reading.{Read, Cut, Refused}
-use Rattle.abc_parse.specs.Operands.{Tokens}
-use Rattle.abc_parse.specs.Preds.{pred}
+use Rattle.abc_readers.specs.Operands.{Tokens}
+use Rattle.abc_readers.specs.Preds.{pred}
 use Rattle.abc_parse.specs.declared.front.Tried.{Tried}
 use Rattle.abc_parse.specs.declared.front.Tried.TheVariants as tried
 use Rattle.abc_parse.specs.declared.front.Front.{Front}

@@ -1,10 +1,6 @@
-pub mod Operands
-pub mod Preds
 pub mod Answers
 pub mod Joining
 pub mod Limiting
 pub mod Fronting
 pub mod Reading
-pub mod Laws
-pub mod Exprs
 pub mod Tuples

@@ -15,9 +15,9 @@ use Rattle.abc_reading.specs.Reading.{Read, Cut, Refused}
 use Rattle.abc_reading.specs.Exact.{Begins, Ends}
 use Rattle.abc_parse.specs.declared.parser.Stop.{Stop}
 use Rattle.abc_parse.specs.declared.parser.Stop.TheVariants as stop
-use Rattle.abc_parse.specs.Operands.{Tokens, Reading, listed, commas}
-use Rattle.abc_parse.specs.Exprs.{whole_expr}
-use Rattle.abc_parse.specs.Laws.{EndsOperand}
+use Rattle.abc_readers.specs.Operands.{Tokens, Reading, listed, commas}
+use Rattle.abc_readers.specs.Exprs.{whole_expr}
+use Rattle.abc_readers.specs.Laws.{EndsOperand}
 
 -- the expressions, the limit aside
 unfoldable pub exprs : Tokens → Reading (List Expr)

@@ -3,8 +3,8 @@ ghost use Rattle.std.specs.Prelude.{◌≡◌, ◌<◌, ◌≤◌, [], ◌∷◌
 ghost use Rattle.abc_pred.specs.Standing.{operand_of, expr_of};
 ghost use Rattle.abc_pred.specs.Terms as term;
 ghost use Rattle.abc_reading.specs.Reading.{mapped};
-ghost use Rattle.abc_parse.specs.Operands.{operand};
-ghost use Rattle.abc_parse.specs.Exprs as spec;
+ghost use Rattle.abc_readers.specs.Operands.{operand};
+ghost use Rattle.abc_readers.specs.Exprs as spec;
 ghost use Rattle.abc_parse.specs.Joining.{pairing_of};
 ghost use Rattle.abc_parse.specs.Answers.{Answers, AnswersPart};
 
@@ -47,7 +47,7 @@ fn push(found: &mut List<Operand>, item: Operand) -> Result<(), NoMemory>
 
 impl<'t> Parser<'t> {
     /// An operand that is read whole.
-    #[tactic(auto, unfolding(crate::specs::Exprs::whole_operand))]
+    #[tactic(auto, unfolding(abc_readers::specs::Exprs::whole_operand))]
     fn whole_operand(&mut self) -> Result<Operand, Stop>
         ensures reads { Answers operand_of (spec.whole_operand self.old.rest.now) result self.new.rest.now }
         ensures shorter { OnOk result (length self.new.rest.now < length self.old.rest.now) }
@@ -63,7 +63,7 @@ impl<'t> Parser<'t> {
     }
 
     /// The operands of a set, of which there is at least one, and the bracket that closes it.
-    #[tactic(auto, using(crate::proofs::ExprSteps::item_steps), unfolding(crate::specs::Exprs::items))]
+    #[tactic(auto, using(crate::proofs::ExprSteps::item_steps), unfolding(abc_readers::specs::Exprs::items))]
     fn items(&mut self) -> Result<List<Operand>, Stop>
         ensures reads { Answers (map operand_of) (spec.items self.old.rest.now) result self.new.rest.now }
         ensures shorter { OnOk result (length self.new.rest.now < length self.old.rest.now) }
@@ -123,7 +123,7 @@ impl<'t> Parser<'t> {
     }
 
     /// An expression that is read whole.
-    #[tactic(auto, unfolding(crate::specs::Exprs::whole_expr))]
+    #[tactic(auto, unfolding(abc_readers::specs::Exprs::whole_expr))]
     #[cycle(expr)]
     pub fn whole_expr(&mut self) -> Result<Expr, Stop>
         ensures reads { Answers expr_of (spec.whole_expr self.old.rest.now) result self.new.rest.now }
@@ -140,7 +140,7 @@ impl<'t> Parser<'t> {
     }
 
     /// The two expressions behind an opening bracket, and the bracket that closes them.
-    #[tactic(auto, unfolding(crate::specs::Exprs::two_exprs, crate::specs::Exprs::whole_expr))]
+    #[tactic(auto, unfolding(abc_readers::specs::Exprs::two_exprs, abc_readers::specs::Exprs::whole_expr))]
     #[cycle(expr)]
     fn two_exprs(&mut self, pairing: Pairing) -> Result<Expr, Stop>
         ensures reads { Answers expr_of (spec.two_exprs (pairing_of pairing) self.old.rest.now) result self.new.rest.now }
@@ -154,7 +154,7 @@ impl<'t> Parser<'t> {
     }
 
     /// What stands behind `union` or `without`.
-    #[tactic(auto, unfolding(crate::specs::Exprs::pair, crate::specs::Exprs::two_exprs))]
+    #[tactic(auto, unfolding(abc_readers::specs::Exprs::pair, abc_readers::specs::Exprs::two_exprs))]
     #[cycle(expr)]
     fn pair(&mut self, pairing: Pairing) -> Result<Expr, Stop>
         ensures reads { Answers expr_of (spec.pair (pairing_of pairing) self.old.rest.now) result self.new.rest.now }
@@ -181,7 +181,7 @@ impl<'t> Parser<'t> {
     }
 
     /// An expression, as far as it goes.
-    #[tactic(auto, using(crate::proofs::ExprSteps::expr_steps), unfolding(crate::specs::Exprs::pair))]
+    #[tactic(auto, using(crate::proofs::ExprSteps::expr_steps), unfolding(abc_readers::specs::Exprs::pair))]
     #[cycle(expr)]
     pub fn expr(&mut self) -> Result<Part<Expr>, Stop>
         ensures reads { AnswersPart expr_of (spec.expr self.old.rest.now) result self.new.rest.now self.new.ahead.now }

@@ -19,8 +19,6 @@ pub use abc_lexer::{
     spelling, text, tokens,
 };
 pub use front::{Front, front_of};
-pub use laws::{
-    exprs_are_read, lists_are_read, literals_are_read, operands_are_read, preds_are_read,
-};
+pub use laws::lists_are_read;
 pub use parser::{Parser, Part, Stop};
 pub use whole::parse_pred;

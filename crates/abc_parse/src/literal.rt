@@ -5,7 +5,7 @@ ghost use Rattle.abc_value.specs.declared.value.Value.TheVariants as value;
 ghost use Rattle.abc_value.specs.Values.{fits_64};
 ghost use Rattle.abc_value.specs.Sets.{set_of};
 ghost use Rattle.abc_pred.specs.Standing.{operand_of};
-ghost use Rattle.abc_parse.specs.Operands as spec;
+ghost use Rattle.abc_readers.specs.Operands as spec;
 ghost use Rattle.abc_parse.specs.Answers.{Answers};
 ghost use Rattle.abc_reading.specs.Reading.{mapped};
 
@@ -54,7 +54,7 @@ impl<'t> Parser<'t> {
     }
 
     /// A scalar.
-    #[tactic(auto, unfolding(crate::specs::Operands::scalar))]
+    #[tactic(auto, unfolding(abc_readers::specs::Operands::scalar))]
     pub fn scalar(&mut self) -> Result<Scalar, Stop>
         ensures reads { Answers (λ x. x) (spec.scalar self.old.rest.now) result self.new.rest.now }
         ensures shorter { OnOk result (length self.new.rest.now < length self.old.rest.now) }
@@ -101,7 +101,7 @@ impl<'t> Parser<'t> {
     }
 
     /// The scalars of a set literal, of which there is at least one, and the brace that closes it.
-    #[tactic(auto, using(crate::proofs::Steps::scalar_steps), unfolding(crate::specs::Operands::members))]
+    #[tactic(auto, using(crate::proofs::Steps::scalar_steps), unfolding(abc_readers::specs::Operands::members))]
     fn members(&mut self) -> Result<Vec<Scalar>, Stop>
         ensures reads { Answers (λ v. v.items) (spec.members self.old.rest.now) result self.new.rest.now }
         ensures shorter { OnOk result (length self.new.rest.now < length self.old.rest.now) }
@@ -142,7 +142,7 @@ impl<'t> Parser<'t> {
     }
 
     /// A literal.
-    #[tactic(auto, unfolding(crate::specs::Operands::literal))]
+    #[tactic(auto, unfolding(abc_readers::specs::Operands::literal))]
     pub fn literal(&mut self) -> Result<Value, Stop>
         ensures reads { Answers (λ x. x) (spec.literal self.old.rest.now) result self.new.rest.now }
         ensures shorter { OnOk result (length self.new.rest.now < length self.old.rest.now) }

@@ -2,7 +2,7 @@
 ghost use Rattle.std.specs.Prelude.{◌≡◌, ◌<◌, ◌≤◌, [], ◌∷◌, length, OnOk, IfOk};
 ghost use Rattle.abc_pred.specs.Standing.{operand_of};
 ghost use Rattle.abc_pred.specs.Terms as term;
-ghost use Rattle.abc_parse.specs.Operands as spec;
+ghost use Rattle.abc_readers.specs.Operands as spec;
 ghost use Rattle.abc_parse.specs.Joining.{sign_of};
 ghost use Rattle.abc_parse.specs.Answers.{Answers, AnswersPart, Takes};
 
@@ -87,7 +87,7 @@ impl<'t> Parser<'t> {
     }
 
     /// An atom. None of its fronts is one, so it is read whole or refused.
-    #[tactic(auto, unfolding(crate::specs::Operands::atom, crate::specs::Operands::bracketed, crate::specs::Operands::applied))]
+    #[tactic(auto, unfolding(abc_readers::specs::Operands::atom, abc_readers::specs::Operands::bracketed, abc_readers::specs::Operands::applied))]
     #[cycle(operand)]
     fn atom(&mut self) -> Result<Operand, Stop>
         ensures reads { Answers operand_of (spec.atom self.old.rest.now) result self.new.rest.now }
@@ -133,7 +133,7 @@ impl<'t> Parser<'t> {
     }
 
     /// An operand and the bracket that closes it.
-    #[tactic(auto, unfolding(crate::specs::Operands::bracketed))]
+    #[tactic(auto, unfolding(abc_readers::specs::Operands::bracketed))]
     #[cycle(operand)]
     fn bracketed(&mut self) -> Result<Operand, Stop>
         ensures reads { Answers operand_of (spec.bracketed self.old.rest.now) result self.new.rest.now }
@@ -153,7 +153,7 @@ impl<'t> Parser<'t> {
     }
 
     /// What stands behind `size` or `free`.
-    #[tactic(auto, unfolding(crate::specs::Operands::applied, crate::specs::Operands::bracketed))]
+    #[tactic(auto, unfolding(abc_readers::specs::Operands::applied, abc_readers::specs::Operands::bracketed))]
     #[cycle(operand)]
     fn applied(&mut self) -> Result<Operand, Stop>
         ensures reads { Answers operand_of (spec.applied self.old.rest.now) result self.new.rest.now }
@@ -169,7 +169,7 @@ impl<'t> Parser<'t> {
     }
 
     /// Atoms joined by `*`.
-    #[tactic(auto, using(crate::proofs::Steps::operand_steps, crate::proofs::OperandWhole::products))]
+    #[tactic(auto, using(crate::proofs::Steps::operand_steps, abc_readers::proofs::OperandWhole::products))]
     #[cycle(operand)]
     fn product(&mut self) -> Result<Part<Operand>, Stop>
         ensures reads { AnswersPart operand_of (spec.product self.old.rest.now) result self.new.rest.now self.new.ahead.now }
@@ -206,7 +206,7 @@ impl<'t> Parser<'t> {
     }
 
     /// Products joined by `+` and `-`.
-    #[tactic(auto, using(crate::proofs::Steps::operand_steps, crate::proofs::OperandWhole::products))]
+    #[tactic(auto, using(crate::proofs::Steps::operand_steps, abc_readers::proofs::OperandWhole::products))]
     #[cycle(operand)]
     pub fn operand(&mut self) -> Result<Part<Operand>, Stop>
         ensures reads { AnswersPart operand_of (spec.operand self.old.rest.now) result self.new.rest.now self.new.ahead.now }

@@ -1,7 +1,7 @@
 //! The parser: the tokens that are left, and what its methods answer.
 ghost use Rattle.std.specs.Prelude.{◌≡◌, ◌<◌, ◌≤◌, [], ◌∷◌, length, OnOk, MatchOption};
-ghost use Rattle.abc_parse.specs.Operands as spec;
-ghost use Rattle.abc_parse.specs.Preds as spec_pred;
+ghost use Rattle.abc_readers.specs.Operands as spec;
+ghost use Rattle.abc_readers.specs.Preds as spec_pred;
 ghost use Rattle.abc_parse.specs.Answers.{Answers};
 
 use abc_cause::Cause;

@@ -2,7 +2,7 @@
 ghost use Rattle.std.specs.Prelude.{◌≡◌, ◌<◌, ◌≤◌, [], ◌∷◌, length, OnOk, IfOk};
 ghost use Rattle.abc_pred.specs.Standing.{operand_of, pred_of};
 ghost use Rattle.abc_pred.specs.Terms as term;
-ghost use Rattle.abc_parse.specs.Preds as spec;
+ghost use Rattle.abc_readers.specs.Preds as spec;
 ghost use Rattle.abc_parse.specs.Joining.{comparison_of};
 ghost use Rattle.abc_parse.specs.Answers.{Answers, AnswersPart, Takes, PassesNots};
 
@@ -106,7 +106,7 @@ impl<'t> Parser<'t> {
         }
     }
 
-    #[tactic(auto, unfolding(crate::specs::Preds::comparison))]
+    #[tactic(auto, unfolding(abc_readers::specs::Preds::comparison))]
     fn comparison(&mut self) -> Result<Part<Pred>, Stop>
         ensures reads { AnswersPart pred_of (spec.comparison self.old.rest.now) result self.new.rest.now self.new.ahead.now }
         ensures shorter { OnOk result (length self.new.rest.now < length self.old.rest.now) }
@@ -135,7 +135,7 @@ impl<'t> Parser<'t> {
     }
 
     /// A test that begins with no `not`.
-    #[tactic(auto, unfolding(crate::specs::Preds::plain, crate::specs::Preds::bracketed))]
+    #[tactic(auto, unfolding(abc_readers::specs::Preds::plain, abc_readers::specs::Preds::bracketed))]
     #[cycle(pred)]
     fn plain(&mut self) -> Result<Part<Pred>, Stop>
         ensures reads { AnswersPart pred_of (spec.plain self.old.rest.now) result self.new.rest.now self.new.ahead.now }
@@ -159,7 +159,7 @@ impl<'t> Parser<'t> {
     }
 
     /// A predicate and the bracket that closes it.
-    #[tactic(auto, unfolding(crate::specs::Preds::bracketed))]
+    #[tactic(auto, unfolding(abc_readers::specs::Preds::bracketed))]
     #[cycle(pred)]
     fn bracketed_pred(&mut self) -> Result<Part<Pred>, Stop>
         ensures reads { AnswersPart pred_of (spec.bracketed self.old.rest.now) result self.new.rest.now self.new.ahead.now }
@@ -192,7 +192,7 @@ impl<'t> Parser<'t> {
     }
 
     /// Tests joined by `and`.
-    #[tactic(auto, using(crate::proofs::Steps::pred_steps, crate::proofs::PredWhole::preds))]
+    #[tactic(auto, using(crate::proofs::Steps::pred_steps, abc_readers::proofs::PredWhole::preds))]
     #[cycle(pred)]
     fn both(&mut self) -> Result<Part<Pred>, Stop>
         ensures reads { AnswersPart pred_of (spec.both self.old.rest.now) result self.new.rest.now self.new.ahead.now }
@@ -218,7 +218,7 @@ impl<'t> Parser<'t> {
     }
 
     /// A predicate, as far as it goes.
-    #[tactic(auto, using(crate::proofs::Steps::pred_steps, crate::proofs::PredWhole::preds))]
+    #[tactic(auto, using(crate::proofs::Steps::pred_steps, abc_readers::proofs::PredWhole::preds))]
     #[cycle(pred)]
     pub fn pred(&mut self) -> Result<Part<Pred>, Stop>
         ensures reads { AnswersPart pred_of (spec.pred self.old.rest.now) result self.new.rest.now self.new.ahead.now }

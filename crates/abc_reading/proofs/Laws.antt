@@ -176,7 +176,7 @@ mapped_owes {T} {E} {A} {B} R S f k pre pre' ts (Refused c vs) h lift = record {
 }
 
 -- ---- by the first token
-by_first : {T E A : Type 0} (f g : List T → Outcome T E A) (t : T) → ((us : List T) → f (t ∷ us) ≡ g (t ∷ us)) → (vs : List T) → first vs ≡ Some t → f vs ≡ g vs
+pub by_first : {T E A : Type 0} (f g : List T → Outcome T E A) (t : T) → ((us : List T) → f (t ∷ us) ≡ g (t ∷ us)) → (vs : List T) → first vs ≡ Some t → f vs ≡ g vs
 by_first f g t h [] e = absurd (let e' : None ≡ Some t = e in cc)
 by_first f g t h (x ∷ vs) e = let e' : x ≡ t = some_inj e in rw e' (h vs)
   where

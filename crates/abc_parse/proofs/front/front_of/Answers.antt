@@ -1,6 +1,6 @@
 use Rattle.std.proofs.Common.{length, take, sym, subst, arith}
 use Rattle.abc_parse.specs.declared.front.Tried.TheVariants as tried
-use Rattle.abc_parse.specs.Operands.{Tokens}
+use Rattle.abc_readers.specs.Operands.{Tokens}
 use Rattle.abc_parse.specs.Fronting.{IsTried}
 use Rattle.abc_parse.proofs.Exact.{take_all}
 use Rattle.abc_parse.proofs.Fronts.{without_limit, with_limit, found, refused, ends}

@@ -2,7 +2,7 @@ use Rattle.std.proofs.Common.{◌≡◌, ℕ, Bool, false, ◌<◌, length, arit
 use Rattle.std.specs.Prelude.{◌==◌}
 use Rattle.std.proofs.lemmas.Bool.Decides.{nat_tests}
 use Rattle.abc_reading.specs.Reading.{Refused}
-use Rattle.abc_parse.specs.Preds.{pred}
+use Rattle.abc_readers.specs.Preds.{pred}
 use Rattle.abc_parse.proofs.Exact.{refused_fits}
 use Rattle.abc_parse.proofs.front.try_front.Goals as goal
 

@@ -1,6 +1,6 @@
 use Rattle.std.proofs.Common.{◌≡◌}
 use Rattle.abc_pred.specs.Standing.{pred_of}
-use Rattle.abc_parse.specs.Preds.{nots}
+use Rattle.abc_readers.specs.Preds.{nots}
 use Rattle.abc_parse.proofs.pred.negated.Given as goal
 
 abbrev pub invariant-loop-i : goal.invariant-loop-i

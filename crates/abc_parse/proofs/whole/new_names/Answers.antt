@@ -1,5 +1,5 @@
 use Rattle.std.proofs.Common.{◌≡◌, ℕ, List, ◌++◌, map, Bor, sym, ap, ◌∙◌, subst}
-use Rattle.std.specs.Prelude.{All, IfOk}
+use Rattle.std.specs.Prelude.{All}
 use Rattle.abc_text.specs.Meanings.{names_behind}
 use Rattle.abc_text.specs.Spelling.{IsWord}
 use Rattle.abc_parse.proofs.Naming.{new_are, new_words, known_first, if_ok}

@@ -2,7 +2,7 @@ use Rattle.std.proofs.Common.{◌≡◌, ◌<◌, length, ◌+◌, ◌*◌}
 use Rattle.abc_cause.specs.declared.Cause.TheVariants.{Syntax}
 use Rattle.abc_pred.specs.Standing.{operand_of}
 use Rattle.abc_reading.specs.Reading.{joined}
-use Rattle.abc_parse.specs.Operands.{atom, stars, product, signs, operand}
+use Rattle.abc_readers.specs.Operands.{atom, stars, product, signs, operand}
 use Rattle.abc_parse.proofs.parser.Parser.+operand.Given as goal
 
 abbrev pub decreases-bracketed : goal.decreases-bracketed

@@ -2,7 +2,7 @@ use Rattle.std.proofs.Common.{◌≡◌, ◌<◌, length, ◌+◌, ◌*◌}
 use Rattle.abc_cause.specs.declared.Cause.TheVariants.{Syntax}
 use Rattle.abc_pred.specs.Standing.{pred_of}
 use Rattle.abc_reading.specs.Reading.{joined}
-use Rattle.abc_parse.specs.Preds.{test, ands, both, ors, pred}
+use Rattle.abc_readers.specs.Preds.{test, ands, both, ors, pred}
 use Rattle.abc_parse.proofs.parser.Parser.+pred.Given as goal
 
 abbrev pub decreases-bracketed_pred : goal.decreases-bracketed_pred

@@ -7,7 +7,7 @@ use Rattle.abc_pred.specs.Standing.{expr_of}
 use Rattle.abc_grammar.specs.declared.lexemes.Lexeme.{Lexeme}
 use Rattle.abc_grammar.specs.declared.lexemes.Lexeme.TheVariants as l
 use Rattle.abc_grammar.specs.declared.lexemes.Mark.TheVariants as m
-use Rattle.abc_parse.specs.Operands.{Tokens}
+use Rattle.abc_readers.specs.Operands.{Tokens}
 use Rattle.abc_parse.specs.Tuples.{IsOneMore, exprs}
 use Rattle.abc_parse.proofs.Tuples.{from_there, IsPassed, handed_on, first_refused, more_refused, ninth_refused, exprs-first, passed_first, more-read, passed_more}
 use Rattle.abc_parse.proofs.parser.Parser.exprs.Goals as goal

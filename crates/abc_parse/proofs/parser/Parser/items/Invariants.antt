@@ -2,8 +2,8 @@ use Rattle.std.proofs.Common.{◌≡◌, ◌<◌, length, map}
 use Rattle.abc_cause.specs.declared.Cause.TheVariants.{Syntax}
 use Rattle.abc_pred.specs.Standing.{operand_of}
 use Rattle.abc_reading.specs.Reading.{joined, mapped, ◌>>=◌}
-use Rattle.abc_parse.specs.Operands.{alone, commas, close_round}
-use Rattle.abc_parse.specs.Exprs.{whole_operand, items}
+use Rattle.abc_readers.specs.Operands.{alone, commas, close_round}
+use Rattle.abc_readers.specs.Exprs.{whole_operand, items}
 use Rattle.abc_parse.proofs.parser.Parser.items.Given as goal
 
 abbrev pub invariant-loop-more : goal.invariant-loop-more

@@ -1,7 +1,7 @@
 use Rattle.std.proofs.Common.{◌≡◌, ◌<◌, length}
 use Rattle.abc_cause.specs.declared.Cause.TheVariants.{Syntax}
 use Rattle.abc_reading.specs.Reading.{joined, mapped, ◌>>=◌}
-use Rattle.abc_parse.specs.Operands.{scalar, alone, commas, close_curly, members}
+use Rattle.abc_readers.specs.Operands.{scalar, alone, commas, close_curly, members}
 use Rattle.abc_parse.proofs.parser.Parser.members.Given as goal
 
 abbrev pub invariant-loop-more : goal.invariant-loop-more

@@ -3,7 +3,7 @@ use Rattle.abc_pred.specs.Standing.{expr_of}
 use Rattle.std.specs.Prelude.{Err}
 use Rattle.abc_parse.specs.declared.parser.Stop.{Stop}
 use Rattle.abc_parse.specs.Answers.{Answers}
-use Rattle.abc_parse.specs.Exprs.{whole_expr}
+use Rattle.abc_readers.specs.Exprs.{whole_expr}
 use Rattle.abc_parse.proofs.Tuples.{starts_read, ninth_stops}
 use Rattle.abc_parse.proofs.parser.Parser.ninth.Goals as goal
 

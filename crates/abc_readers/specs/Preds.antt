@@ -8,7 +8,7 @@ use Rattle.abc_grammar.specs.declared.lexemes.Lexeme.TheVariants as l
 use Rattle.abc_grammar.specs.declared.lexemes.Mark.TheVariants as m
 use Rattle.abc_grammar.specs.declared.lexemes.Keyword.TheVariants as k
 use Rattle.abc_reading.specs.Reading.{Read, ◌>>=◌, mapped, again, Joins, chain}
-use Rattle.abc_parse.specs.Operands.{Tokens, Reading, refuse, operand}
+use Rattle.abc_readers.specs.Operands.{Tokens, Reading, refuse, operand}
 
 abbrev pub close_square : {A : Type 0} → A → Tokens → Reading A
 close_square a (l.Mark m.CloseSquare ∷ ts) = Read a ts

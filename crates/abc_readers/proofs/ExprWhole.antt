@@ -18,11 +18,11 @@ use Rattle.abc_grammar.specs.Exprs.{IsExpr}
 use Rattle.abc_grammar.specs.Exprs as g
 use Rattle.abc_reading.specs.Reading.{Read, Cut, Refused, ◌>>=◌, mapped}
 use Rattle.abc_reading.specs.Exact.{Reaches}
-use Rattle.abc_parse.specs.Operands.{Tokens, Reading, close_round, operand}
-use Rattle.abc_parse.specs.Exprs.{whole_operand, items, items_at, second_by, two_by, expr_by, expr}
-use Rattle.abc_parse.specs.Laws.{EndsOperand}
-use Rattle.abc_parse.proofs.OperandWhole.{listed_ends, operand_ends, operand_reach}
-use Rattle.abc_parse.proofs.ExprReads.{whole_operand_reads, expr-eq}
+use Rattle.abc_readers.specs.Operands.{Tokens, Reading, close_round, operand}
+use Rattle.abc_readers.specs.Exprs.{whole_operand, items, items_at, second_by, two_by, expr_by, expr}
+use Rattle.abc_readers.specs.Laws.{EndsOperand}
+use Rattle.abc_readers.proofs.OperandWhole.{listed_ends, operand_ends, operand_reach}
+use Rattle.abc_readers.proofs.ExprReads.{whole_operand_reads, expr-eq}
 
 -- what begins as an operand does is no keyword of expressions and no bracket that closes
 record Begun (ts : Tokens) : Type 0 where

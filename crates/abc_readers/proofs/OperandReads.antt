@@ -22,7 +22,7 @@ use Rattle.abc_reading.specs.Reading.{◌>>=◌, mapped, times, chain}
 use Rattle.abc_reading.proofs.Laws.{Begins, Owes, Reads, bind_owes, mapped_owes, take_owes, refuse_at_owes, refuse_end_owes, go_owes, like_owes, like_end_owes, lift_owes}
 use Rattle.abc_reading.proofs.Again.{Guarded, again_owes, again-step}
 use Rattle.abc_reading.proofs.Chain.{reads_leaves, chain_reads, chain-agree}
-use Rattle.abc_parse.specs.Operands.{Tokens, Reading, refuse, close_round, close_curly, read_if, negative, scalar_at, scalar, alone, commas, listed, members, members_at, set_value_of, literal_at, literal, literal_of, set_literal_of, own_named, own, bracketed_by, applied_by, atom_by, stars, product_by, signs, operand_by, operand_step, operand, product}
+use Rattle.abc_readers.specs.Operands.{Tokens, Reading, refuse, close_round, close_curly, read_if, negative, scalar_at, scalar, alone, commas, listed, members, members_at, set_value_of, literal_at, literal, literal_of, set_literal_of, own_named, own, bracketed_by, applied_by, atom_by, stars, product_by, signs, operand_by, operand_step, operand, product}
 
 some_inj : {A : Type 0} {x y : A} → Some x ≡ Some y → x ≡ y
 some_inj e = cc

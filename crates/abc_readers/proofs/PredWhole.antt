@@ -17,10 +17,10 @@ use Rattle.abc_grammar.specs.Preds.{IsPred, IsBoth, IsTest}
 use Rattle.abc_grammar.specs.Preds as g
 use Rattle.abc_reading.specs.Reading.{Read, Cut, Refused, ◌>>=◌, mapped, joined, chain}
 use Rattle.abc_reading.proofs.Chain.{Leaves, Ends, Reaches, reads_leaves, joined_ends, chain_first, chain_more, then_reaches, chain_reaches}
-use Rattle.abc_parse.specs.Operands.{Tokens, Reading, operand}
-use Rattle.abc_parse.specs.Preds.{close_square, compared, comparison, ands, ors, test_by, pred, both, test}
-use Rattle.abc_parse.proofs.OperandWhole.{EndsOperand, operand_ends, operand_reach}
-use Rattle.abc_parse.proofs.PredReads.{test_by_reads, both_by_reads, pred_reads, pred-eq}
+use Rattle.abc_readers.specs.Operands.{Tokens, Reading, operand}
+use Rattle.abc_readers.specs.Preds.{close_square, compared, comparison, ands, ors, test_by, pred, both, test}
+use Rattle.abc_readers.proofs.OperandWhole.{EndsOperand, operand_ends, operand_reach}
+use Rattle.abc_readers.proofs.PredReads.{test_by_reads, both_by_reads, pred_reads, pred-eq}
 
 -- a test that begins as an operand does is a comparison
 begins_scalar : (inner : Tokens → Reading Pred) {ts : Tokens} {x : Scalar} → IsScalar ts x → (rest : Tokens) → test_by inner (ts ++ rest) ≡ comparison (ts ++ rest)

@@ -17,11 +17,11 @@ use Rattle.abc_reading.specs.Reading.{Read, Cut, Refused, ◌>>=◌, mapped, tim
 use Rattle.abc_reading.proofs.Laws.{Begins, left_of, Owes, Reads, bind_owes, mapped_owes, lift_owes, pure_owes, take_owes, refuse_at_owes, refuse_end_owes, go_owes, like_owes, like_end_owes}
 use Rattle.abc_reading.proofs.Again.{Guarded, again_owes, again-step}
 use Rattle.abc_reading.proofs.Chain.{reads_leaves}
-use Rattle.abc_parse.specs.Operands.{Tokens, Reading, refuse, close_round, listed, operand}
-use Rattle.abc_parse.specs.Exprs.{whole, whole_operand, items, items_at, set_items, second_by, two_by, pair_by, expr_by, expr_step, expr}
-use Rattle.abc_parse.proofs.OperandReads.{none_is, operand_reads, listed_reads}
+use Rattle.abc_readers.specs.Operands.{Tokens, Reading, refuse, close_round, listed, operand}
+use Rattle.abc_readers.specs.Exprs.{whole, whole_operand, items, items_at, set_items, second_by, two_by, pair_by, expr_by, expr_step, expr}
+use Rattle.abc_readers.proofs.OperandReads.{none_is, operand_reads, listed_reads}
 
-none_expr : IsExpr (l.Keyword k.None ∷ []) (e.Plain (e.Literal v.Nothing))
+pub none_expr : IsExpr (l.Keyword k.None ∷ []) (e.Plain (e.Literal v.Nothing))
 none_expr = g.operand none_is
 
 -- ---- terms that are read whole

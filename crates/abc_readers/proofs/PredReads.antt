@@ -15,9 +15,9 @@ use Rattle.abc_reading.specs.Reading.{◌>>=◌, mapped, times, chain}
 use Rattle.abc_reading.proofs.Laws.{Begins, Owes, Reads, bind_owes, mapped_owes, take_owes, refuse_at_owes, refuse_end_owes, go_owes, like_owes, like_end_owes}
 use Rattle.abc_reading.proofs.Again.{Guarded, again_owes, again-step}
 use Rattle.abc_reading.proofs.Chain.{reads_leaves, chain_reads, chain-agree}
-use Rattle.abc_parse.specs.Operands.{Tokens, Reading, refuse, operand}
-use Rattle.abc_parse.specs.Preds.{close_square, compared, comparison, ands, ors, plain_by, test_by, both_by, pred_by, pred_step, pred, both}
-use Rattle.abc_parse.proofs.OperandReads.{none_is, operand_reads}
+use Rattle.abc_readers.specs.Operands.{Tokens, Reading, refuse, operand}
+use Rattle.abc_readers.specs.Preds.{close_square, compared, comparison, ands, ors, plain_by, test_by, both_by, pred_by, pred_step, pred, both}
+use Rattle.abc_readers.proofs.OperandReads.{none_is, operand_reads}
 
 some_inj : {A : Type 0} {x y : A} → Some x ≡ Some y → x ≡ y
 some_inj e = cc

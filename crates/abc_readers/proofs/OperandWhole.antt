@@ -19,9 +19,9 @@ use Rattle.abc_grammar.specs.Operands as g
 use Rattle.abc_reading.specs.Reading.{Read, ◌>>=◌, mapped, joined, chain}
 use Rattle.abc_reading.proofs.Chain.{Leaves, Ends, Reaches, reads_leaves, joined_ends, chain_first, chain_more, chain_whole, then_reaches, chain_reaches}
 use Rattle.abc_reading.proofs.Laws.{Reads}
-pub use Rattle.abc_parse.specs.Laws.{EndsOperand}
-use Rattle.abc_parse.specs.Operands.{Tokens, Reading, close_round, close_curly, read_if, scalar, alone, commas, listed, members, members_at, set_value_of, literal, literal_of, set_literal_of, stars, signs, operand, product, atom}
-use Rattle.abc_parse.proofs.OperandReads.{Alone, alone_reads, scalar_reads, atom_reads, product_reads, operand_reads, operand-eq}
+pub use Rattle.abc_readers.specs.Laws.{EndsOperand}
+use Rattle.abc_readers.specs.Operands.{Tokens, Reading, close_round, close_curly, read_if, scalar, alone, commas, listed, members, members_at, set_value_of, literal, literal_of, set_literal_of, stars, signs, operand, product, atom}
+use Rattle.abc_readers.proofs.OperandReads.{Alone, alone_reads, scalar_reads, atom_reads, product_reads, operand_reads, operand-eq}
 
 -- ---- scalars
 pub whole-scalar : {ts : Tokens} {x : Scalar} → IsScalar ts x → (rest : Tokens) → scalar (ts ++ rest) ≡ Read x rest

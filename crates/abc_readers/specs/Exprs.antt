@@ -7,7 +7,7 @@ use Rattle.abc_grammar.specs.declared.lexemes.Lexeme.TheVariants as l
 use Rattle.abc_grammar.specs.declared.lexemes.Mark.TheVariants as m
 use Rattle.abc_grammar.specs.declared.lexemes.Keyword.TheVariants as k
 use Rattle.abc_reading.specs.Reading.{Read, ◌>>=◌, mapped, again}
-use Rattle.abc_parse.specs.Operands.{Tokens, Reading, refuse, close_round, listed, operand}
+use Rattle.abc_readers.specs.Operands.{Tokens, Reading, refuse, close_round, listed, operand}
 
 -- ---- terms that are read whole
 abbrev pub whole : {A : Type 0} → (Tokens → Reading A) → Tokens → Reading A

@@ -1,0 +1,12 @@
+pub mod OperandReads
+pub mod OperandWhole
+pub mod ExprReads
+pub mod ExprWhole
+pub mod PredReads
+pub mod PredWhole
+pub mod Combined
+pub mod ProcessReads
+pub mod ProcessAgain
+pub mod ProcessWhole
+pub mod ProgramReads
+pub mod ProgramWhole
