@@ -8,3 +8,4 @@ pub mod Shorts
 pub mod Below
 pub mod Walks
 pub mod NoneTooMany
+pub mod Crowded

@@ -1,6 +1,6 @@
--- No token begins a part too many in a text whose tuples are short.
-use Rattle.std.proofs.Common.{◌≡◌, inl, inr, ℕ, suc, ◌-◌, ◌<◌, Bool, true, false, List, [], ◌∷◌, ◌++◌, length, take, drop, set, get_or, Option, Some, None, refl, sym, ap, ◌∙◌, subst, append_assoc, arith, if◌then◌else◌}
-use Rattle.std.proofs.lemmas.List.{set_split, set-get_or, get_or_default}
+-- No token begins a part too many where no token stands in a crowded bracket, as in a text whose tuples are short.
+use Rattle.std.proofs.Common.{◌≡◌, inl, inr, ℕ, suc, ◌-◌, zero, ◌<◌, Bool, true, false, List, [], ◌∷◌, ◌++◌, length, take, drop, set, get_or, Option, Some, None, refl, sym, ap, ◌∙◌, subst, append_assoc, arith, if◌then◌else◌, ◌≤◌}
+use Rattle.std.proofs.lemmas.List.{length-take, set_split, set-get_or, get_or_default}
 use Rattle.abc_grammar.specs.declared.lexemes.Lexeme.{Lexeme}
 use Rattle.abc_grammar.specs.declared.lexemes.Lexeme.TheVariants as l
 use Rattle.abc_grammar.specs.declared.lexemes.Mark.TheVariants as m
@@ -9,8 +9,8 @@ use Rattle.abc_grammar.specs.Listed.{AreListed, IsVariable}
 use Rattle.abc_grammar.specs.Exprs.{IsExpr}
 use Rattle.abc_grammar.specs.Plain.{PlainProgram}
 use Rattle.abc_grammar.specs.Programs.{IsProgram}
-use Rattle.abc_grammar_laws.specs.Short.{AreShort, NoneTooMany}
-use Rattle.abc_grammar_laws.specs.Crowding.{Bracket, Standing, is_crowded, moved, step, walk}
+use Rattle.abc_grammar_laws.specs.Short.{NoneTooMany}
+use Rattle.abc_grammar_laws.specs.Crowding.{Bracket, Standing, is_crowded, moved, step, walk, at_start, BeginsExtraPart, IsUncrowded}
 use Rattle.abc_grammar_laws.proofs.Walks.{walk_append, roomy_none, one_step, Ended, listed_within, listed_anywhere, expr_ended, variable_ended, program_flat}
 
 -- ---- walks of one text
@@ -57,24 +57,23 @@ module _ {A : Type 0} (Item : List Lexeme → A → Type 0) (ended : (limited : 
       ∙ ap (λ (s : Option Standing). walk false s (l.Mark m.CloseRound ∷ t ∷ more)) e.2 in
       absurd (let k : None ≡ Some r = sym (to ∙ ap (λ (s : Option Standing). walk false s more) (never false bs)) ∙ j in cc)
 
-  -- so none stands in a text whose tuples are short
+  -- so none stands where no token stands in a crowded bracket
   pub none_too_many :
       (t : Lexeme) → ((w : Bool) (bs : List Bracket) → moved t w true bs ≡ None) →
-      (before parts rest more : List Lexeme) (items : List A) (next : Lexeme) (p q : PlainProgram) → AreListed Item parts items →
+      (before parts rest more : List Lexeme) (items : List A) (next : Lexeme) (r : Standing) (q : PlainProgram) → AreListed Item parts items →
       length items ≡ MOST_PARTS →
       IsProgram (before ++ (l.Mark m.OpenRound ∷ parts ++ l.Mark m.CloseRound ∷ t ∷ rest)) q →
-      IsProgram (before ++ (l.Mark m.OpenRound ∷ parts ++ l.Mark m.Comma ∷ next ∷ more)) p → ¬ AreShort p
-  none_too_many t never before parts rest more items next p q h full other this short =
-      let start = Some (false, (false, [])) in
+      ¬ (walk true (Some at_start) (before ++ (l.Mark m.OpenRound ∷ parts ++ l.Mark m.Comma ∷ next ∷ more)) ≡ Some r)
+  none_too_many t never before parts rest more items next r q h full other passed =
+      let start = Some at_start in
       let list = l.Mark m.OpenRound ∷ parts ++ l.Mark m.Comma ∷ next ∷ more in
       let closed = l.Mark m.OpenRound ∷ parts ++ l.Mark m.CloseRound ∷ t ∷ rest in
-      let a = program_flat true _ p this (λ _. short) false [] (roomy_none true) in
       let b = program_flat false _ q other (λ e. absurd (let k : false ≡ true = e in cc)) false [] (roomy_none false) in
-      let front = passed_front true start before list (false, (a.0, [])) a.1 in
+      let front = passed_front true start before list r passed in
       let same = unlimited start before front.0 front.1 in
       let back = walk_append false start before closed ∙ ap (λ (s : Option Standing). walk false s closed) same in
       let no_set = any_behind_set t never parts rest items front.0.0 front.0.1.0 front.0.1.1 (false, (b.0, [])) h (sym back ∙ b.1) in
-      cannot front.0 (false, (a.0, [])) no_set front.2
+      cannot front.0 r no_set front.2
     where
       cannot : (s r : Standing) → s.0 ≡ false → ¬ (walk true (Some s) (l.Mark m.OpenRound ∷ parts ++ l.Mark m.Comma ∷ next ∷ more) ≡ Some r)
       cannot (w, (c, bs)) r e j = by (is_crowded bs) refl
@@ -90,7 +89,7 @@ module _ {A : Type 0} (Item : List Lexeme → A → Type 0) (ended : (limited : 
               cc
 
 -- the tokens around number k
-around : (ts : List Lexeme) (k : ℕ) (x : Lexeme) → k < length ts → take k ts ++ get_or ts k x ∷ drop (suc k) ts ≡ ts
+pub around : (ts : List Lexeme) (k : ℕ) (x : Lexeme) → k < length ts → take k ts ++ get_or ts k x ∷ drop (suc k) ts ≡ ts
 around ts k x lt = sym (set_split ts k (get_or ts k x) lt) ∙ ap (set ts k) (get_or_default ts k x (get_or ts k x) lt)
     ∙ set-get_or ts k (get_or ts k x)
 
@@ -105,15 +104,14 @@ cut_behind : (before parts : List Lexeme) (end : Lexeme) (t : Lexeme) (rest : Li
 cut_behind before parts end t rest =
     append_assoc (before ++ l.Mark m.OpenRound ∷ parts) (end ∷ []) (t ∷ rest) ∙ append_assoc before (l.Mark m.OpenRound ∷ parts) (end ∷ t ∷ rest)
 
--- a whole text from where a part too many would stand
+-- the tokens from where a part too many would stand
 from_there :
-    (ts : List Lexeme) (k : ℕ) (before parts : List Lexeme) (p : PlainProgram) (x : Lexeme) → k < length ts →
+    (ts : List Lexeme) (k : ℕ) (before parts : List Lexeme) (x : Lexeme) → k < length ts →
     take k ts ≡ before ++ l.Mark m.OpenRound ∷ parts ++ l.Mark m.Comma ∷ [] →
-    IsProgram ts p → IsProgram (before ++ (l.Mark m.OpenRound ∷ parts ++ l.Mark m.Comma ∷ get_or ts k x ∷ drop (suc k) ts)) p
-from_there ts k before parts p x lt stands h =
-    subst (λ us. IsProgram us p)
-    (sym (around ts k x lt) ∙ ap (λ (us : List Lexeme). us ++ get_or ts k x ∷ drop (suc k) ts) stands
-    ∙ cut_behind before parts (l.Mark m.Comma) (get_or ts k x) (drop (suc k) ts)) h
+    ts ≡ before ++ (l.Mark m.OpenRound ∷ parts ++ l.Mark m.Comma ∷ get_or ts k x ∷ drop (suc k) ts)
+from_there ts k before parts x lt stands =
+    sym (around ts k x lt) ∙ ap (λ (us : List Lexeme). us ++ get_or ts k x ∷ drop (suc k) ts) stands
+    ∙ cut_behind before parts (l.Mark m.Comma) (get_or ts k x) (drop (suc k) ts)
 
 closed_there :
     (before parts : List Lexeme) (t : Lexeme) (rest : List Lexeme) (p : PlainProgram) →
@@ -121,14 +119,65 @@ closed_there :
     IsProgram (before ++ (l.Mark m.OpenRound ∷ parts ++ l.Mark m.CloseRound ∷ t ∷ rest)) p
 closed_there before parts t rest p h = subst (λ us. IsProgram us p) (cut_before before parts (l.Mark m.CloseRound) t rest) h
 
+-- where all tokens are passed, none begins a part too many
+none_passed : (us : List Lexeme) (r : Standing) → walk true (Some at_start) us ≡ Some r → (k : ℕ) → ¬ BeginsExtraPart us k
+none_passed us r passed k (inl e) =
+    let x = l.Number 0 in
+    none_too_many IsExpr expr_ended (l.Mark m.At) (λ w bs. refl) e.before e.parts e.output.0 (drop (suc k) us) e.exprs (get_or us k x) r e.output.1.0
+    e.listed e.full (closed_there e.before e.parts (l.Mark m.At) e.output.0 e.output.1.0 e.output.1.1)
+    (ap (walk true (Some at_start)) (sym (from_there us k e.before e.parts x e.exists e.stands)) ∙ passed)
+none_passed us r passed k (inr e) =
+    let x = l.Number 0 in
+    none_too_many IsVariable variable_ended (l.Mark m.Dot) (λ w bs. refl) e.before e.parts e.input.0 (drop (suc k) us) e.variables (get_or us k x) r
+    e.input.1.0 e.listed e.full (closed_there e.before e.parts (l.Mark m.Dot) e.input.0 e.input.1.0 e.input.1.1)
+    (ap (walk true (Some at_start)) (sym (from_there us k e.before e.parts x e.exists e.stands)) ∙ passed)
+
 pub short_tuples : NoneTooMany
-short_tuples ts p h short k (inl e) =
-    none_too_many IsExpr expr_ended (l.Mark m.At) (λ w bs. refl) e.before e.parts e.output.0 (drop (suc k) ts) e.exprs (get_or ts k
-    (l.Number 0)) p e.output.1.0 e.listed e.full
-    (closed_there e.before e.parts (l.Mark m.At) e.output.0 e.output.1.0 e.output.1.1) (from_there ts k e.before e.parts p
-    (l.Number 0) e.exists e.stands h) short
-short_tuples ts p h short k (inr e) =
-    none_too_many IsVariable variable_ended (l.Mark m.Dot) (λ w bs. refl) e.before e.parts e.input.0 (drop (suc k) ts) e.variables (get_or ts k
-    (l.Number 0)) p e.input.1.0 e.listed e.full
-    (closed_there e.before e.parts (l.Mark m.Dot) e.input.0 e.input.1.0 e.input.1.1) (from_there ts k e.before e.parts p
-    (l.Number 0) e.exists e.stands h) short
+short_tuples ts p h short k extra =
+    let a = program_flat true ts p h (λ t. short) false [] (roomy_none true) in none_passed ts (false, (a.0, [])) a.1 k extra
+
+-- ---- the tokens before number k decide whether it begins a part too many
+pub other_end : (ts us : List Lexeme) (k : ℕ) → k < length us → take k ts ≡ take k us → BeginsExtraPart ts k → BeginsExtraPart us k
+other_end ts us k lt e (inl h) =
+    inl (record {
+      exists = lt;
+      before = h.before;
+      parts = h.parts;
+      exprs = h.exprs;
+      listed = h.listed;
+      full = h.full;
+      stands = sym e
+          ∙ h.stands;
+      output = h.output;
+    })
+other_end ts us k lt e (inr h) =
+    inr (record {
+      exists = lt;
+      before = h.before;
+      parts = h.parts;
+      variables = h.variables;
+      listed = h.listed;
+      full = h.full;
+      stands = sym e
+          ∙ h.stands;
+      input = h.input;
+    })
+
+pub take_take : (ts : List Lexeme) (n k : ℕ) → k ≤ n → take k (take n ts) ≡ take k ts
+take_take ts n zero le = refl
+take_take [] (suc n) (suc k) le = refl
+take_take [] zero (suc k) le = absurd (omega arith)
+take_take (t ∷ ts) zero (suc k) le = absurd (omega arith)
+take_take (t ∷ ts) (suc n) (suc k) le = ap (λ (us : List Lexeme). t ∷ us) (take_take ts n k (omega arith))
+
+pub none_before : (ts : List Lexeme) (n : ℕ) → IsUncrowded ts n → (k : ℕ) → k < n → ¬ BeginsExtraPart ts k
+none_before ts n passed k lt extra = by extra
+  where
+    there : k < length ts → k < length (take n ts)
+    there le = let e = length-take n ts in omega (arith, e, le, lt)
+
+    by : ¬ BeginsExtraPart ts k
+    by (inl h) = none_passed (take n ts) passed.0 passed.1 k (other_end ts (take n ts) k (there h.exists) (sym (take_take ts n k (omega arith)))
+        (inl h))
+    by (inr h) = none_passed (take n ts) passed.0 passed.1 k (other_end ts (take n ts) k (there h.exists) (sym (take_take ts n k (omega arith)))
+        (inr h))

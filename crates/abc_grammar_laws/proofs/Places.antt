@@ -16,7 +16,7 @@ regroup before left ts right after = simp append_assoc
 
 -- A part of tokens that have a place has one: `whole_of` makes the tokens from those of the part, which stand between `left`
 -- and `right`.
-pub inside :
+unfoldable pub inside :
     {A B : Type 0} {X : List Lexeme → A → Type 0} {Y : List Lexeme → B → Type 0} {all : List Lexeme}
     (whole_of : List Lexeme → List Lexeme) (left right : List Lexeme) → ((us : List Lexeme) → whole_of us ≡ left ++ us ++ right) →
     ((us : List Lexeme) (a : A) → X us a → (b : B) × Y (whole_of us) b) →

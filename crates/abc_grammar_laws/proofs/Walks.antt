@@ -47,10 +47,10 @@ regrouped ps qs rs ss zs =
     ∙ sym (append_assoc ps qs (rs ++ (ss ++ zs))) ∙ sym (append_assoc (ps ++ qs) rs (ss ++ zs))
 
 -- nothing is asked
-abbrev Any : {A : Type 0} → A → Type 0
+abbrev pub Any : {A : Type 0} → A → Type 0
 Any a = Unit {0}
 
-all_any : {A : Type 0} (xs : List A) → All (Any {A = A}) xs
+pub all_any : {A : Type 0} (xs : List A) → All (Any {A = A}) xs
 all_any xs k d lt = tt
 
 module _ (limited : Bool) where
@@ -347,19 +347,19 @@ module _ (limited : Bool) where
       let parts = All-pop Holds (items ++ a ∷ []) items (Some a) refl all in
       flat_ended (ts ++ us) (flat_append ts us (repeated_flat Holds flat h parts.0) (flat us a i parts.1)) c bs r
 
-  update_flat : (ts : List Lexeme) (u : Update) → IsUpdate ts u → Flat ts
+  pub update_flat : (ts : List Lexeme) (u : Update) → IsUpdate ts u → Flat ts
   update_flat _ u (q.update {a} {ts} {e} h) =
       in_square (l.Name a ∷ l.Mark m.Becomes ∷ ts)
       (ended_behind (l.Name a) (l.Mark m.Becomes ∷ ts) (λ w c bs. refl) (ended_behind (l.Mark m.Becomes) ts (λ w c bs. refl) (expr_ended ts e h)))
 
-  name_ended : (ts : List Lexeme) (n : Name) → IsName ts n → Ended ts
+  pub name_ended : (ts : List Lexeme) (n : Name) → IsName ts n → Ended ts
   name_ended _ n gl.name = flat_ended (l.Name n ∷ []) (quiet_flat (l.Name n) (λ w c bs. refl))
 
   pub variable_ended : (ts : List Lexeme) (n : Name) → IsVariable ts n → Ended ts
   variable_ended _ n gl.variable = flat_ended (l.Variable n ∷ []) (quiet_flat (l.Variable n) (λ w c bs. refl))
 
   -- a mark that may stand behind no `set(..)`
-  behind_bracket : (t : Lexeme) (ts us : List Lexeme) → ((w : Bool) (bs : List Bracket) → moved t w false bs ≡ Some (false, (false, bs))) →
+  pub behind_bracket : (t : Lexeme) (ts us : List Lexeme) → ((w : Bool) (bs : List Bracket) → moved t w false bs ≡ Some (false, (false, bs))) →
       Flat ts → Flat us → Flat (ts ++ t ∷ us)
   behind_bracket t ts us q h j c bs r =
       walk_append limited (Some (false, (c, bs))) ts (t ∷ us) ∙ ap (λ (s : Option Standing). walk limited s (t ∷ us)) (h c bs r)
@@ -424,20 +424,21 @@ module _ (limited : Bool) where
   shape ts us vs = regrouped (l.Mark m.OpenCurly ∷ ts) (l.Keyword k.Show ∷ us) (l.Mark m.Semicolon ∷ l.Keyword k.Run ∷ vs)
       (l.Mark m.Semicolon ∷ []) (l.Mark m.CloseCurly ∷ [])
 
-  definition_flat : (ts : List Lexeme) (d : Name × Process) → IsDefinition ts d → Short d.1 → Flat ts
+  pub definition_flat : (ts : List Lexeme) (d : Name × Process) → IsDefinition ts d → Short d.1 → Flat ts
   definition_flat _ d (g.definition {c} {ts} {A} h) s =
       behind (l.Keyword k.Def) (l.Name c ∷ l.Mark m.Equal ∷ ts ++ l.Mark m.Semicolon ∷ []) (λ w b bs. refl)
       (behind (l.Name c) (l.Mark m.Equal ∷ ts ++ l.Mark m.Semicolon ∷ []) (λ w b bs. refl)
       (behind (l.Mark m.Equal) (ts ++ l.Mark m.Semicolon ∷ []) (λ w b bs. refl) (ended_by ts (l.Mark m.Semicolon) (λ w b bs. refl) (flat_ended ts
       (process_flat h s)))))
 
-  initial_flat : (ts : List Lexeme) (x : Name × Value) → IsInitial ts x → Flat ts
+  pub initial_flat : (ts : List Lexeme) (x : Name × Value) → IsInitial ts x → Flat ts
   initial_flat _ x (g.initial {a} {ts} h) =
       behind (l.Name a) (l.Mark m.Equal ∷ ts ++ l.Mark m.Semicolon ∷ []) (λ w b bs. refl)
       (behind (l.Mark m.Equal) (ts ++ l.Mark m.Semicolon ∷ []) (λ w b bs. refl) (ended_by ts (l.Mark m.Semicolon) (λ w b bs. refl) (flat_ended ts
       (literal_flat h))))
 
-  run_flat : (vs : List Lexeme) (A : Process) → IsProcess vs A → Short A → Flat (l.Mark m.Semicolon ∷ l.Keyword k.Run ∷ vs ++ l.Mark m.Semicolon ∷ [])
+  pub run_flat : (vs : List Lexeme) (A : Process) → IsProcess vs A → Short A →
+      Flat (l.Mark m.Semicolon ∷ l.Keyword k.Run ∷ vs ++ l.Mark m.Semicolon ∷ [])
   run_flat vs A h s =
       behind (l.Mark m.Semicolon) (l.Keyword k.Run ∷ vs ++ l.Mark m.Semicolon ∷ []) (λ w b bs. refl)
       (behind (l.Keyword k.Run) (vs ++ l.Mark m.Semicolon ∷ []) (λ w b bs. refl) (ended_by vs (l.Mark m.Semicolon) (λ w b bs. refl) (flat_ended vs
@@ -461,7 +462,7 @@ module _ (limited : Bool) where
             ∙ run_flat vs A j s f.0 ((true, f.1) ∷ bs) (roomy_any f.1 bs),
       )
 
-  component_flat : (ts : List Lexeme) (C : PlainComponent) → IsComponent ts C → Short C.run → Flat ts
+  pub component_flat : (ts : List Lexeme) (C : PlainComponent) → IsComponent ts C → Short C.run → Flat ts
   component_flat _ C (g.component {c} {ts} {us} {vs} {first} {shown} {A} h i j) s =
       behind (l.Keyword k.Comp)
       (l.Name c ∷ l.Mark m.OpenCurly ∷ ts ++ l.Keyword k.Show ∷ us ++ l.Mark m.Semicolon ∷ l.Keyword k.Run ∷ vs ++ l.Mark m.Semicolon ∷ l.Mark

@@ -1,10 +1,12 @@
 -- How many commas stand in each open bracket of a text, as far as the limits of tuples need it.
-use Rattle.std.specs.Prelude.{ℕ, suc, Bool, true, false, ◌&&◌, List, [], ◌∷◌, Option, Some, None, nat_le, if◌then◌else◌}
+use Rattle.std.specs.Prelude.{◌≡◌, ◌⊎◌, ◌<◌, length, take, ℕ, suc, Bool, true, false, ◌&&◌, List, [], ◌∷◌, Option, Some, None, nat_le, if◌then◌else◌}
 use Rattle.abc_grammar.specs.declared.lexemes.Lexeme.{Lexeme}
 use Rattle.abc_grammar.specs.declared.lexemes.Lexeme.TheVariants as l
 use Rattle.abc_grammar.specs.declared.lexemes.Mark.TheVariants as m
 use Rattle.abc_grammar.specs.declared.lexemes.Keyword.TheVariants as k
 use Rattle.abc_grammar.specs.declared.limits.TheConstants.{MOST_PARTS}
+use Rattle.abc_grammar.specs.Limits.{Begins, BeginsExtraExpr, BeginsExtraVariable}
+use Rattle.abc_grammar.specs.Refusals.{IsSomeProgram}
 
 -- An open bracket: whether it may hold any number of items (it is no round one, or a `set` stands before it), and its commas.
 abbrev pub Bracket : Type 0
@@ -59,3 +61,30 @@ module _ (limited : Bool) where
   walk None ts = None
   walk (Some s) [] = Some s
   walk (Some s) (t ∷ ts) = walk (step s t) ts
+
+-- no bracket is open
+abbrev pub at_start : Standing
+at_start = (false, (false, []))
+
+abbrev pub IsCrowd : Option Standing → Type 0
+IsCrowd None = ⊥
+IsCrowd (Some (word, (set, bs))) = is_crowded bs ≡ true
+
+-- Token k stands in a crowded bracket, and no token before it does.
+pub record IsFirstCrowded (ts : List Lexeme) (k : ℕ) : Type 0 where
+  pub exists : k < length ts
+  pub crowd : IsCrowd (walk true (Some at_start) (take k ts))
+
+-- none of the first n tokens does
+abbrev pub IsUncrowded : List Lexeme → ℕ → Type 0
+IsUncrowded ts n = (s : Standing) × (walk true (Some at_start) (take n ts) ≡ Some s)
+
+-- token k begins an expression or a variable too many
+abbrev pub BeginsExtraPart : List Lexeme → ℕ → Type 0
+BeginsExtraPart ts k = BeginsExtraExpr IsSomeProgram ts k ⊎ BeginsExtraVariable IsSomeProgram ts k
+
+-- A part too many stands where a bracket is crowded: none does among tokens of which none stands in a crowded bracket; and where the tokens
+-- before begin a text, the first one that stands in a crowded bracket begins a part too many.
+pub record ExtraPartsAreCrowded : Type 0 where
+  pub none : (ts : List Lexeme) (n : ℕ) → IsUncrowded ts n → (k : ℕ) → k < n → ¬ BeginsExtraPart ts k
+  pub first : (ts : List Lexeme) (k : ℕ) → IsFirstCrowded ts k → Begins IsSomeProgram (take k ts) → BeginsExtraPart ts k

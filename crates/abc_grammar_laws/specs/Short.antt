@@ -1,5 +1,5 @@
 -- The limits of tuples and of set literals, as what an accepted text gives.
-use Rattle.std.specs.Prelude.{◌≡◌, ◌⊎◌, ℕ, ◌≤◌, List, ◌∷◌, ◌++◌, length, All}
+use Rattle.std.specs.Prelude.{◌≡◌, ℕ, ◌≤◌, List, ◌∷◌, ◌++◌, length, All}
 use Rattle.abc_value.specs.declared.scalar.Scalar.{Scalar}
 use Rattle.abc_text.specs.declared.lexical.Token.{Token}
 use Rattle.abc_term.specs.Processes.{Process, Nil, Output, Input, When, Choice, Par, Call}
@@ -12,9 +12,8 @@ use Rattle.abc_grammar.specs.Listed.{AreListed}
 use Rattle.abc_grammar.specs.Literals.{IsScalar}
 use Rattle.abc_grammar.specs.Plain.{PlainProgram, plain_program}
 use Rattle.abc_grammar.specs.Programs.{IsProgram}
-use Rattle.abc_grammar.specs.Limits.{BeginsExtraExpr, BeginsExtraVariable}
-use Rattle.abc_grammar.specs.Refusals.{IsSomeProgram}
 use Rattle.abc_grammar.specs.Accepted.{IsAccepted}
+use Rattle.abc_grammar_laws.specs.Crowding.{BeginsExtraPart}
 
 -- each output has at most so many expressions, and each input so many variables
 abbrev pub HasShortTuples : Process → Type 0
@@ -44,5 +43,4 @@ SetsAreShort =
 -- Conversely no token begins a part too many in a text of the grammar whose tuples are short.
 abbrev pub NoneTooMany : Type 0
 NoneTooMany =
-    (ts : List Lexeme) (p : PlainProgram) → IsProgram ts p → AreShort p → (k : ℕ) →
-    ¬ (BeginsExtraExpr IsSomeProgram ts k ⊎ BeginsExtraVariable IsSomeProgram ts k)
+    (ts : List Lexeme) (p : PlainProgram) → IsProgram ts p → AreShort p → (k : ℕ) → ¬ BeginsExtraPart ts k

@@ -1,5 +1,6 @@
 //! The laws, each the contract of a function that does nothing.
 ghost use Rattle.abc_grammar_laws.specs.Short.{TuplesAreShort, SetsAreShort, NoneTooMany};
+ghost use Rattle.abc_grammar_laws.specs.Crowding.{ExtraPartsAreCrowded};
 ghost use Rattle.abc_grammar_laws.specs.Numbered.{NamesAreNumbered};
 ghost use Rattle.abc_grammar_laws.specs.Marks.{MarksStand};
 ghost use Rattle.abc_grammar_laws.specs.Meeting.{LimitsMeet};
@@ -32,4 +33,10 @@ pub fn limits_meet()
 /// variables, no token begins an expression or a variable too many.
 pub fn short_tuples_pass_no_limit()
     ensures { NoneTooMany }
+{}
+
+/// A part too many stands where a bracket is crowded: none does among tokens of which none stands in a
+/// crowded bracket, and where the tokens before it begin a text, the first token that does begins one.
+pub fn extra_parts_are_crowded()
+    ensures { ExtraPartsAreCrowded }
 {}

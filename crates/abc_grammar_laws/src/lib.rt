@@ -5,5 +5,6 @@
 mod laws;
 
 pub use laws::{
-    limits_hold, limits_meet, marks_stand, names_are_numbered, short_tuples_pass_no_limit,
+    extra_parts_are_crowded, limits_hold, limits_meet, marks_stand, names_are_numbered,
+    short_tuples_pass_no_limit,
 };
