@@ -23,7 +23,7 @@ use abc_value::{List, NoMemory};
 use std::alloc::Global;
 
 /// What an input makes.
-pub type Taken<'p> = Moved<'p, ()>;
+pub type Taken<'p> = Box<Moved<'p, ()>>;
 
 /// The input that stands here takes the message.
 fn received<'p>(
@@ -37,19 +37,20 @@ fn received<'p>(
 ) -> Result<Taken<'p>, NoMemory>
     requires { IsTrue (takes (label_of label.now) at.now.env.now at.now.interface.now (put_pred (outside xs.now scope.now) (pred_of p.now)) xs.now) }
     ensures env { IfOk result
-        (λ s. env_after at.now s.env
+        (λ s. env_after at.now s.value.env
         ≡ updated (put_updates (zip xs.now label.now.values) (put_updates (outside xs.now scope.now) (updates_of after.now.updates))) at.now.env.now) }
     ensures then { IfOk result
-        (λ s. process_in s.tree ≡ put (zip xs.now label.now.values) (put (outside xs.now scope.now) (process_of after.now.then.value))) }
+        (λ s. process_in s.value.tree ≡ put (zip xs.now label.now.values) (put (outside xs.now scope.now) (process_of after.now.then.value))) }
 {
     let inside = scope.inside(alloc, xs.as_slice(), label.values.as_slice())?;
     let env = updated(alloc, at.env, &inside, after.updates.as_slice())?;
     let tree = Tree::Leaf(&after.then, inside);
-    Ok(Moved {
+    let moved = Moved {
         said: (),
         env,
         tree,
-    })
+    };
+    Ok(Box::new(alloc, moved)?)
 }
 
 /// A walk over the process for its input at a place, among those that take a message which is meant for
@@ -65,7 +66,7 @@ pub fn hear<'p>(
 ) -> Result<Walk<Taken<'p>>, NoMemory>
     requires { IsMeantHere at.now (label_of label.now) }
     ensures { IfOk result (ComesTo
-        (λ s. TakesHere at.now (label_of label.now) depth (put scope.now (process_of p.now)) place s.env (process_in s.tree))
+        (λ s. TakesHere at.now (label_of label.now) depth (put scope.now (process_of p.now)) place s.value.env (process_in s.value.tree))
         place (ins_here at.now (label_of label.now) depth (put scope.now (process_of p.now)))) }
 {
     match p {
@@ -93,9 +94,9 @@ pub fn hear<'p>(
             },
         },
         Process::Par(p, q) => match hear(alloc, at, label, depth, scope, p, place)? {
-            Walk::Found(s) => Ok(Walk::Found(s.left_of(alloc, scope, q)?)),
+            Walk::Found(s) => Ok(Walk::Found(Moved::left_of(s, alloc, scope, q)?)),
             Walk::Passed(n) => match hear(alloc, at, label, depth, scope, q, place - n)? {
-                Walk::Found(s) => Ok(Walk::Found(s.right_of(alloc, scope, p)?)),
+                Walk::Found(s) => Ok(Walk::Found(Moved::right_of(s, alloc, scope, p)?)),
                 Walk::Passed(m) => Ok(Walk::Passed(n + m)),
             },
         },

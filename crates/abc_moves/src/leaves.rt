@@ -66,7 +66,7 @@ pub fn label_at<'p>(
 {
     match tree {
         Tree::Leaf(p, scope) => match speak(alloc, at, depth, scope, p, place)? {
-            Walk::Found(moved) => Ok(Walk::Found(moved.said())),
+            Walk::Found(moved) => Ok(Walk::Found(Moved::said(moved))),
             Walk::Passed(n) => Ok(Walk::Passed(n)),
         },
         Tree::Par(sides) => match label_at(alloc, at, depth, &sides.left, place)? {
@@ -108,7 +108,7 @@ pub fn speak_at<'p>(
                     said: label,
                     env,
                     tree: leaf,
-                } = moved;
+                } = Box::into_inner(moved);
                 *tree = leaf;
                 Ok(Walk::Found(Said { label, env }))
             }
@@ -150,7 +150,7 @@ pub fn hear_at<'p>(
                     said: (),
                     env,
                     tree: leaf,
-                } = moved;
+                } = Box::into_inner(moved);
                 *tree = leaf;
                 Ok(Walk::Found(env))
             }

@@ -21,12 +21,13 @@ pub struct Moved<'p, S> {
     pub tree: Tree<'p>,
 }
 
+// What was found is handed back through a walk in a box, so that deep walks take little of the stack.
 impl<'p, S: Drop> Moved<'p, S> {
     /// What was said alone.
-    pub fn said(self) -> S
-        ensures { result ≡ self.entry.said }
+    pub fn said(moved: Box<Moved<'p, S>>) -> S
+        ensures { result ≡ moved.entry.value.said }
     {
-        let Moved { said, env, tree } = self;
+        let Moved { said, env, tree } = Box::into_inner(moved);
         drop(env);
         drop(tree);
         said
@@ -34,33 +35,33 @@ impl<'p, S: Drop> Moved<'p, S> {
 
     /// What moved stands on the left of a process that stays.
     pub fn left_of(
-        self,
+        moved: Box<Moved<'p, S>>,
         alloc: Global,
         scope: &Scope,
         stays: &'p Process,
-    ) -> Result<Moved<'p, S>, NoMemory>
-        ensures said { IfOk result (λ m. m.said ≡ self.entry.said) }
-        ensures env { IfOk result (λ m. m.env ≡ self.entry.env) }
-        ensures tree { IfOk result (λ m. process_in m.tree ≡ Par (process_in self.entry.tree) (put scope.now (process_of stays.now))) }
+    ) -> Result<Box<Moved<'p, S>>, NoMemory>
+        ensures said { IfOk result (λ m. m.value.said ≡ moved.entry.value.said) }
+        ensures env { IfOk result (λ m. m.value.env ≡ moved.entry.value.env) }
+        ensures tree { IfOk result (λ m. process_in m.value.tree ≡ Par (process_in moved.entry.value.tree) (put scope.now (process_of stays.now))) }
     {
-        let Moved { said, env, tree } = self;
+        let Moved { said, env, tree } = Box::into_inner(moved);
         let tree = Tree::pair(alloc, tree, Tree::leaf(alloc, stays, scope)?)?;
-        Ok(Moved { said, env, tree })
+        Ok(Box::new(alloc, Moved { said, env, tree })?)
     }
 
     /// What moved stands on the right of a process that stays.
     pub fn right_of(
-        self,
+        moved: Box<Moved<'p, S>>,
         alloc: Global,
         scope: &Scope,
         stays: &'p Process,
-    ) -> Result<Moved<'p, S>, NoMemory>
-        ensures said { IfOk result (λ m. m.said ≡ self.entry.said) }
-        ensures env { IfOk result (λ m. m.env ≡ self.entry.env) }
-        ensures tree { IfOk result (λ m. process_in m.tree ≡ Par (put scope.now (process_of stays.now)) (process_in self.entry.tree)) }
+    ) -> Result<Box<Moved<'p, S>>, NoMemory>
+        ensures said { IfOk result (λ m. m.value.said ≡ moved.entry.value.said) }
+        ensures env { IfOk result (λ m. m.value.env ≡ moved.entry.value.env) }
+        ensures tree { IfOk result (λ m. process_in m.value.tree ≡ Par (put scope.now (process_of stays.now)) (process_in moved.entry.value.tree)) }
     {
-        let Moved { said, env, tree } = self;
+        let Moved { said, env, tree } = Box::into_inner(moved);
         let tree = Tree::pair(alloc, Tree::leaf(alloc, stays, scope)?, tree)?;
-        Ok(Moved { said, env, tree })
+        Ok(Box::new(alloc, Moved { said, env, tree })?)
     }
 }

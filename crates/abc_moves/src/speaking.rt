@@ -21,7 +21,7 @@ use abc_value::{List, NoMemory, Value};
 use std::alloc::Global;
 
 /// What an output makes.
-pub type Spoken<'p> = Moved<'p, Label>;
+pub type Spoken<'p> = Box<Moved<'p, Label>>;
 
 fn values(alloc: Global, env: &Env, scope: &Scope, es: &[Expr]) -> Result<List<Value>, NoMemory>
     ensures { IfOk result (λ vs. vs ≡ values_of (map (put_expr scope.now) (exprs_of es.now)) env.now) }
@@ -65,16 +65,16 @@ fn said<'p>(
     after: &'p After,
 ) -> Result<Spoken<'p>, NoMemory>
     ensures label { IfOk result
-        (λ s. label_of s.said
+        (λ s. label_of s.value.said
         ≡ label_from at.now.env.now at.now.interface.now (map (put_expr scope.now) (exprs_of es.now)) (put_pred scope.now (pred_of pred.now))) }
     ensures env { IfOk result
-        (λ s. env_after at.now s.env ≡ updated (put_updates scope.now (updates_of after.now.updates)) at.now.env.now) }
-    ensures then { IfOk result (λ s. process_in s.tree ≡ put scope.now (process_of after.now.then.value)) }
+        (λ s. env_after at.now s.value.env ≡ updated (put_updates scope.now (updates_of after.now.updates)) at.now.env.now) }
+    ensures then { IfOk result (λ s. process_in s.value.tree ≡ put scope.now (process_of after.now.then.value)) }
 {
     let said = say(alloc, at, scope, es.as_slice(), pred)?;
     let env = updated(alloc, at.env, scope, after.updates.as_slice())?;
     let tree = Tree::Leaf(&after.then, scope.copy(alloc)?);
-    Ok(Moved { said, env, tree })
+    Ok(Box::new(alloc, Moved { said, env, tree })?)
 }
 
 /// A walk over the process for its output at a place, which is made, calls unfolded to the depth.
@@ -87,7 +87,7 @@ pub fn speak<'p>(
     place: u32,
 ) -> Result<Walk<Spoken<'p>>, NoMemory>
     ensures { IfOk result (ComesTo
-        (λ s. SaysHere at.now depth (put scope.now (process_of p.now)) place (label_of s.said) s.env (process_in s.tree))
+        (λ s. SaysHere at.now depth (put scope.now (process_of p.now)) place (label_of s.value.said) s.value.env (process_in s.value.tree))
         place (outs_here at.now depth (put scope.now (process_of p.now)))) }
 {
     match p {
@@ -113,9 +113,9 @@ pub fn speak<'p>(
             },
         },
         Process::Par(p, q) => match speak(alloc, at, depth, scope, p, place)? {
-            Walk::Found(s) => Ok(Walk::Found(s.left_of(alloc, scope, q)?)),
+            Walk::Found(s) => Ok(Walk::Found(Moved::left_of(s, alloc, scope, q)?)),
             Walk::Passed(n) => match speak(alloc, at, depth, scope, q, place - n)? {
-                Walk::Found(s) => Ok(Walk::Found(s.right_of(alloc, scope, p)?)),
+                Walk::Found(s) => Ok(Walk::Found(Moved::right_of(s, alloc, scope, p)?)),
                 Walk::Passed(m) => Ok(Walk::Passed(n + m)),
             },
         },

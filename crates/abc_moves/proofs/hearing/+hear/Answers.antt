@@ -16,7 +16,7 @@ returns-in-Some t c =
     let d = c.args.depth in let k = c.args.place in let here = put c.args.scope.now (process_of c.args.p.now) in
     let there = put at.unbound (process_of c.in-Some.body.now) in let called = ap process_of c.in-Call.is in
     IfOk-weaker c.hear-in-Some.result _ _
-    (λ w h. comes_to (λ s. TakesHere at l (d - 1) there k s.env (process_in s.tree)) (λ s. TakesHere at l d here k s.env (process_in s.tree)) k (ins_here at l (d - 1) there) (ins_here at l d here)
-    (λ s takes. takes_called d defs l at.env.now at.interface.now c.in-Call.c c.args.scope.now at.unbound (process_of c.args.p.now) (process_of c.in-Some.body.now) k (env_after at s.env) (process_in s.tree) e.0 e.1 at.binds_nothing called takes)
+    (λ w h. comes_to (λ s. TakesHere at l (d - 1) there k s.value.env (process_in s.value.tree)) (λ s. TakesHere at l d here k s.value.env (process_in s.value.tree)) k (ins_here at l (d - 1) there) (ins_here at l d here)
+    (λ s takes. takes_called d defs l at.env.now at.interface.now c.in-Call.c c.args.scope.now at.unbound (process_of c.args.p.now) (process_of c.in-Some.body.now) k (env_after at s.value.env) (process_in s.value.tree) e.0 e.1 at.binds_nothing called takes)
     (sym (ins_called d defs l at.env.now at.interface.now c.in-Call.c c.args.scope.now at.unbound (process_of c.args.p.now) (process_of c.in-Some.body.now) e.0 e.1 at.binds_nothing called)) w h)
     c.hear-in-Some.ensures

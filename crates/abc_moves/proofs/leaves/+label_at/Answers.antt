@@ -14,7 +14,7 @@ returns-in-Found t c =
     let at = c.args.at.now in let moved = c.in-Found.moved in let leaf = put c.in-Leaf.scope (process_of c.in-Leaf.p.now) in
     let s = rw c.in-Found.is at c.in_ok-moved-in-Leaf.ensures in
     let is : process_in c.args.tree.now ≡ leaf = search rules in
-    said_leaf c.args.depth (definitions_around at) at.env.now at.interface.now (process_in c.args.tree.now) leaf c.args.place (label_of moved.said) (label_of c.said.result) (env_after at moved.env) (process_in moved.tree) is
+    said_leaf c.args.depth (definitions_around at) at.env.now at.interface.now (process_in c.args.tree.now) leaf c.args.place (label_of moved.value.said) (label_of c.said.result) (env_after at moved.value.env) (process_in moved.value.tree) is
     (ap label_of c.said.ensures) (search (rules, s))
 
 pub returns-in-Found-2 : goal.returns-in-Found-2

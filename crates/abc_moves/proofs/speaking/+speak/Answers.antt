@@ -15,7 +15,7 @@ returns-in-Some t c =
     let d = c.args.depth in let k = c.args.place in let here = put c.args.scope.now (process_of c.args.p.now) in
     let there = put at.unbound (process_of c.in-Some.body.now) in let called = ap process_of c.in-Call.is in
     IfOk-weaker c.speak-in-Some.result _ _
-    (λ w h. comes_to (λ s. SaysHere at (d - 1) there k (label_of s.said) s.env (process_in s.tree)) (λ s. SaysHere at d here k (label_of s.said) s.env (process_in s.tree)) k (outs_here at (d - 1) there) (outs_here at d here)
-    (λ s says. says_called d defs at.env.now at.interface.now c.in-Call.c c.args.scope.now at.unbound (process_of c.args.p.now) (process_of c.in-Some.body.now) k (label_of s.said) (env_after at s.env) (process_in s.tree) e.0 e.1 at.binds_nothing called says)
+    (λ w h. comes_to (λ s. SaysHere at (d - 1) there k (label_of s.value.said) s.value.env (process_in s.value.tree)) (λ s. SaysHere at d here k (label_of s.value.said) s.value.env (process_in s.value.tree)) k (outs_here at (d - 1) there) (outs_here at d here)
+    (λ s says. says_called d defs at.env.now at.interface.now c.in-Call.c c.args.scope.now at.unbound (process_of c.args.p.now) (process_of c.in-Some.body.now) k (label_of s.value.said) (env_after at s.value.env) (process_in s.value.tree) e.0 e.1 at.binds_nothing called says)
     (sym (outs_called d defs at.env.now c.in-Call.c c.args.scope.now at.unbound (process_of c.args.p.now) (process_of c.in-Some.body.now) e.0 e.1 at.binds_nothing called)) w h)
     c.speak-in-Some.ensures
