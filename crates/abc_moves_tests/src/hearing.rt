@@ -126,7 +126,7 @@ const BOUND: [(&str, &str, &str); 7] = [
 ];
 
 /// One of several inputs moves.
-const PLACES: [(&str, &str, &str); 6] = [
+const PLACES: [(&str, &str, &str); 7] = [
     // the other side of an interleaving stays
     (
         "0 #4 ! >a 0 $v [l ?v 0 $v [r ?v | >b",
@@ -154,6 +154,12 @@ const PLACES: [(&str, &str, &str); 6] = [
         "0 #4 ! >a 0 $v [r ?v =A A A | =B B B | =C C >b",
         "s0.0 i1 h1.7 h1.3 i1 h1.2 i1 e1",
         "(4){} 4 - ok 3 ok 2 {r=4}",
+    ),
+    // what is heard opens a guard
+    (
+        "0 #1 ! >a #0 .n 0 #2 ! ~n #1 same w 0 #1 [n ?v | >b",
+        "o1 s0.0 h1.0 o1 s1.0 o1",
+        "0 (1){} ok 1 (2){} 0",
     ),
     (
         "0 #4 ! >a A $v [r ?v =A A >b",

@@ -11,7 +11,7 @@
 //!
 //! A place that isn't there writes `-`.
 
-ghost use Rattle.std.specs.Prelude.{◌<◌, ◌^◌, length};
+ghost use Rattle.std.specs.Prelude.{◌<◌, length};
 ghost use Rattle.abc_checks.specs.Facts.{IsChecked};
 
 use abc_checks::check;
@@ -217,17 +217,25 @@ fn numbers_of(digits: &[u8]) -> (usize, u32) {
     (at, place)
 }
 
+/// The first component alone, as the program begins with it.
+fn alone(alloc: Global, program: &Program) -> Result<Vec<Live<'_>>, Mistake>
+    requires checked { IsChecked program.now }
+    requires some { 0 < length program.now.components }
+{
+    let mut lives = Vec::new(alloc);
+    lives.push(Live::start(alloc, program, 0)?)?;
+    Ok(lives)
+}
+
 /// The program's components as it begins with them.
 fn begin(alloc: Global, program: &Program) -> Result<Scene<'_>, Mistake>
-    requires checked { IsChecked program.now }
-    requires few { length program.now.components < 2 ^ 32 }
+    requires { IsChecked program.now }
 {
-    let count = program.components.len() as u32;
-    let mut lives = Vec::new(alloc);
-    for component in 0..count {
-        let live = Live::start(alloc, program, component)?;
-        lives.push(live)?;
-    }
+    let lives = if program.components.len() == 1 {
+        alone(alloc, program)?
+    } else {
+        Live::start_all(alloc, program)?.into_vec()
+    };
     Ok(Scene {
         alloc,
         lives,
@@ -238,8 +246,7 @@ fn begin(alloc: Global, program: &Program) -> Result<Scene<'_>, Mistake>
 
 /// What the steps of the script write of a checked program, parted by blanks.
 fn played(alloc: Global, program: &Program, script: &str) -> Result<String, Mistake>
-    requires checked { IsChecked program.now }
-    requires few { length program.now.components < 2 ^ 32 }
+    requires { IsChecked program.now }
 {
     let mut scene = begin(alloc, program)?;
     let mut first_step = true;
