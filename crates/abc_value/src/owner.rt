@@ -8,8 +8,7 @@ use std::sync::Arc;
 
 /// One of the owners of a value. Contracts see the value alone, so owners of equal values are equal.
 ///
-/// The value goes with its last owner. Owners may stand in several threads where the value may be shared
-/// by threads.
+/// The value goes with its last owner.
 #[derive(Drop)]
 pub struct Owner<L> {
     shared: Arc<L, Global>,
