@@ -9,3 +9,5 @@ pub mod Below
 pub mod Walks
 pub mod NoneTooMany
 pub mod Crowded
+pub mod NoItems
+pub mod NamePlaces

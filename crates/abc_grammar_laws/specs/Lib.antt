@@ -3,3 +3,4 @@ pub mod Short
 pub mod Numbered
 pub mod Marks
 pub mod Meeting
+pub mod NamePlaces

@@ -4,6 +4,7 @@ ghost use Rattle.abc_grammar_laws.specs.Crowding.{ExtraPartsAreCrowded};
 ghost use Rattle.abc_grammar_laws.specs.Numbered.{NamesAreNumbered};
 ghost use Rattle.abc_grammar_laws.specs.Marks.{MarksStand};
 ghost use Rattle.abc_grammar_laws.specs.Meeting.{LimitsMeet};
+ghost use Rattle.abc_grammar_laws.specs.NamePlaces.{PlacesAreNamed};
 
 /// In an accepted text each output has at most eight expressions, each input at most eight variables,
 /// and each set literal at most 256 scalars as it is written.
@@ -39,4 +40,10 @@ pub fn short_tuples_pass_no_limit()
 /// crowded bracket, and where the tokens before it begin a text, the first token that does begins one.
 pub fn extra_parts_are_crowded()
     ensures { ExtraPartsAreCrowded }
+{}
+
+/// In a text of the grammar each definition and each component has one place: the i-th place is that of the
+/// name of the i-th, right behind the i-th `def` or `comp`, and these words stand nowhere else.
+pub fn places_are_named()
+    ensures { PlacesAreNamed }
 {}
