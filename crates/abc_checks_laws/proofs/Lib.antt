@@ -1,0 +1,4 @@
+pub mod Deciding
+pub mod Sites
+pub mod Reaching
+pub mod Finding
