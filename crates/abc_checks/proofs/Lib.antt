@@ -1,5 +1,6 @@
 pub mod NamesMet
 pub mod Searching
+pub mod Leveling
 pub mod CallPaths
 pub mod Cycling
 pub mod Solving

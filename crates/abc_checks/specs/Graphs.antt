@@ -1,11 +1,14 @@
 -- The calls of definitions as arrows between their numbers, and a search along them. The facts of the checks are not stated by these, but the code is.
-use Rattle.std.specs.Prelude.{◌≡◌, ◌⊎◌, ◌↔◌, ◌<◌, ℕ, ◌++◌, Bool, true, false, IsTrue, List, [], ◌∷◌, Some, length, map, slice_get, slice_index_or, slice_set, if◌then◌else◌}
+use Rattle.std.specs.Prelude.{◌≡◌, ◌⊎◌, ◌<◌, ◌≤◌, ℕ, ◌++◌, Bool, true, false, IsTrue, IsSomeAnd, List, [], ◌∷◌, length, map, slice_get, slice_index_or, slice_set, if◌then◌else◌}
 use Rattle.abc_pred.specs.declared.names.Name.{Name}
 use Rattle.abc_term.specs.Processes.{Process}
 use Rattle.abc_term.specs.declared.terms.Definition.{Definition}
+use Rattle.abc_term.specs.declared.terms.Program.{Program}
 use Rattle.abc_term.specs.Standing.{process_of, definitions_of}
 use Rattle.abc_term.specs.Calls.{calls, unguarded_calls, Reaches}
 use Rattle.abc_checks.specs.Parts.{place_of, holds_par}
+use Rattle.abc_checks.specs.Sites.{AtSite}
+use Rattle.abc_checks.specs.declared.causes.Site.{Site}
 use Rattle.abc_checks.specs.declared.calls.Calls.{Calls}
 use Rattle.abc_checks.specs.declared.calls.Calls.TheVariants.{All, Unguarded}
 use Rattle.abc_checks.specs.declared.search.Search as held
@@ -32,19 +35,25 @@ pub data Path (g : List (List ℕ)) : ℕ → ℕ → Type 0 where
   arrow : {i j : ℕ} → Arrow g i j → Path g i j
   arrows : {i j k : ℕ} → Arrow g i j → Path g j k → Path g i k
 
--- The table says of each of the first items whether a fact holds of it.
-pub record Says {A : Type 0} (Holds : A → Type 0) (items : List A) (count : ℕ) (table : List Bool) : Type 0 where
-  pub size : length table ≡ count
-  pub right : (i : ℕ) (x : A) → i < count → slice_get items i ≡ Some x → IsTrue (slice_index_or table i false) ↔ Holds x
+-- The level of a node; 0 where the list has none for it.
+abbrev pub level_of : List ℕ → ℕ → ℕ
+level_of levels i = slice_index_or levels i 0
+
+-- No arrow leads to a higher level.
+abbrev pub NoneRises : List (List ℕ) → List ℕ → Type 0
+NoneRises g levels = (i j : ℕ) → Arrow g i j → level_of levels j ≤ level_of levels i
 
 -- The definition reaches itself by unguarded calls; or, where all calls count, it reaches itself and its body holds `|`.
 abbrev pub IsBadCycle : Calls → List Definition → Definition → Type 0
 IsBadCycle Unguarded ds d = Reaches unguarded_calls (definitions_of ds) d.name d.name
 IsBadCycle All ds d = IsTrue (holds_par (process_of d.body)) × Reaches calls (definitions_of ds) d.name d.name
 
--- Of each definition, whether it does.
-abbrev pub SaysWhoCycles : Calls → List Definition → List Bool → Type 0
-SaysWhoCycles counted ds table = Says (IsBadCycle counted ds) ds (length ds) table
+-- The definition of a number does.
+abbrev pub CyclesAt : Calls → List Definition → ℕ → Type 0
+CyclesAt counted ds i = IsSomeAnd (slice_get ds i) (IsBadCycle counted ds)
+
+abbrev pub CycleSite : Calls → Program → Site → Type 0
+CycleSite counted p = AtSite (length p.definitions) (length p.components) (CyclesAt counted p.definitions) (λ i. ⊥)
 
 -- A search: which nodes are marked, and the marked ones whose arrows were not followed yet.
 pub record Search : Type 0 where

@@ -2,6 +2,7 @@ pub mod Parts
 pub mod Variables
 pub mod Sites
 pub mod Scopes
+pub mod Firsts
 pub mod Graphs
 pub mod Measures
 pub mod Tables

@@ -5,7 +5,7 @@ ghost use Rattle.abc_checks.specs.Facts.{DoubleName, UnknownName, OpenVariable, 
 
 use crate::calls::Calls;
 use crate::causes::{CheckRefusal, Site};
-use crate::cycles::{Marked, bad_cycles};
+use crate::cycles::first_bad_cycle;
 use crate::limits::MOST_COMPONENTS;
 use crate::measures::{Measure, table};
 use crate::places::Places;
@@ -18,24 +18,18 @@ use std::alloc::Global;
 
 /// The first site at which a definition reaches itself by unguarded calls.
 fn unguarded(alloc: Global, places: &Places<'_>) -> Result<Option<Site>, NoMemory>
-    requires definitions { length places.now.program.now.definitions < 2 ^ 32 }
-    requires components { length places.now.program.now.components < 2 ^ 32 }
+    requires { length places.now.program.now.definitions < 2 ^ 32 }
     ensures { IfOk result (IsFirstSite (Unguarded places.now.program.now)) }
 {
-    let program = places.program;
-    let cycles = bad_cycles(alloc, Calls::Unguarded, places)?;
-    Ok(first_site(&Marked(&cycles), program))
+    first_bad_cycle(alloc, Calls::Unguarded, places)
 }
 
 /// The first site at which a definition that holds `|` reaches itself.
 fn parallel_cycle(alloc: Global, places: &Places<'_>) -> Result<Option<Site>, NoMemory>
-    requires definitions { length places.now.program.now.definitions < 2 ^ 32 }
-    requires components { length places.now.program.now.components < 2 ^ 32 }
+    requires { length places.now.program.now.definitions < 2 ^ 32 }
     ensures { IfOk result (IsFirstSite (ParallelCycle places.now.program.now)) }
 {
-    let program = places.program;
-    let cycles = bad_cycles(alloc, Calls::All, places)?;
-    Ok(first_site(&Marked(&cycles), program))
+    first_bad_cycle(alloc, Calls::All, places)
 }
 
 /// The first component that is too wide.
@@ -82,7 +76,7 @@ fn first_of(alloc: Global, cause: CheckCause, places: &Places<'_>) -> Result<Opt
     let program = places.program;
     let count = program.components.len();
     match cause {
-        CheckCause::DoubleName => Ok(first_site(&facts::DoubleName(program), program)),
+        CheckCause::DoubleName => Ok(first_site(&facts::DoubleName(&*places), program)),
         CheckCause::UnknownName => Ok(first_site(&facts::UnknownName(&*places), program)),
         CheckCause::OpenVariable => Ok(first_site(&facts::OpenVariable(program), program)),
         CheckCause::Unguarded => unguarded(alloc, places),

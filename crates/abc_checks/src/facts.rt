@@ -1,10 +1,9 @@
-ghost use Rattle.std.specs.Prelude.{◌≡◌, ℕ, [], map, take, length, IsTrue};
-ghost use Rattle.abc_pred.specs.Maps.{lists};
+ghost use Rattle.std.specs.Prelude.{◌≡◌, ◌≤◌, ℕ, [], take, length, IsTrue};
 ghost use Rattle.abc_term.specs.Standing.{process_of, definitions_of};
 ghost use Rattle.abc_checks.specs.Variables.{process_open};
 ghost use Rattle.abc_checks.specs.Facts.{Has, definition_doubles, component_doubles, calls_unknown};
 
-use crate::names::{lists, repeats};
+use crate::names::repeats;
 use crate::parts::repeats_variable;
 use crate::places::Places;
 use crate::sites::Fact;
@@ -12,16 +11,18 @@ use crate::unknown::calls_unknown;
 use crate::variables::{Scope, process_open};
 use abc_term::{Component, Definition, Program};
 
-fn definition_doubles(earlier: &[Definition], definition: &Definition) -> bool
-    ensures { result ≡ definition_doubles earlier.now definition.now }
+fn definition_doubles(places: &Places<'_>, at: usize, definition: &Definition) -> bool
+    requires { at ≤ length places.now.program.now.definitions }
+    ensures { result ≡ definition_doubles (take at places.now.program.now.definitions) definition.now }
 {
-    lists(earlier, definition.name) || repeats_variable(&definition.body)
+    places.defines_before(at, definition.name) || repeats_variable(&definition.body)
 }
 
-fn component_doubles(earlier: &[Component], component: &Component) -> bool
-    ensures { result ≡ component_doubles earlier.now component.now }
+fn component_doubles(places: &Places<'_>, at: usize, component: &Component) -> bool
+    requires { at ≤ length places.now.program.now.components }
+    ensures { result ≡ component_doubles (take at places.now.program.now.components) component.now }
 {
-    lists(earlier, component.name)
+    places.has_component_before(at, component.name)
         || repeats(component.initial.as_slice())
         || repeats(component.show.as_slice())
         || repeats_variable(&component.run)
@@ -29,26 +30,26 @@ fn component_doubles(earlier: &[Component], component: &Component) -> bool
 
 /// A name stands twice.
 #[derive(Drop)]
-pub struct DoubleName<'p>(pub &'p Program);
+pub struct DoubleName<'p>(pub &'p Places<'p>);
 
 impl Fact for DoubleName<'_> {
-    ghost of_definition = { λ f i. Has (definition_doubles (take i f.0.now.definitions)) f.0.now.definitions i };
+    ghost of_definition = { λ f i. Has (definition_doubles (take i f.0.now.program.now.definitions)) f.0.now.program.now.definitions i };
 
-    ghost of_component = { λ f i. Has (component_doubles (take i f.0.now.components)) f.0.now.components i };
+    ghost of_component = { λ f i. Has (component_doubles (take i f.0.now.program.now.components)) f.0.now.program.now.components i };
 
     fn definition_has(&self, at: usize) -> bool {
-        let definitions = self.0.definitions.as_slice();
+        let definitions = self.0.program.definitions.as_slice();
         match definitions.get(at) {
             None => false,
-            Some(definition) => definition_doubles(&definitions[..at], definition),
+            Some(definition) => definition_doubles(self.0, at, definition),
         }
     }
 
     fn component_has(&self, at: usize) -> bool {
-        let components = self.0.components.as_slice();
+        let components = self.0.program.components.as_slice();
         match components.get(at) {
             None => false,
-            Some(component) => component_doubles(&components[..at], component),
+            Some(component) => component_doubles(self.0, at, component),
         }
     }
 }

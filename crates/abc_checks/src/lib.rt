@@ -8,15 +8,18 @@ mod counts;
 mod cycles;
 mod facts;
 mod laws;
+mod levels;
 mod limits;
 mod measures;
 mod names;
+mod order;
 mod parts;
 mod places;
 mod search;
 mod sites;
 mod unknown;
 mod variables;
+mod walk;
 
 pub use abc_cause::CheckCause;
 pub use causes::{CheckRefusal, Site};

@@ -4,7 +4,9 @@ ghost use Rattle.abc_term.specs.Standing.{process_of, definitions_of};
 ghost use Rattle.abc_checks.specs.Measures.{width_of, breadth_of, has_broad_part, IsLeastSolution};
 ghost use Rattle.abc_checks.specs.Tables.{measure_of, cap_of, number_of, bodies, room, IsRising, IsSettledAt};
 
+use crate::calls::{Calls, graph};
 use crate::limits::{BROADEST, WIDEST};
+use crate::order::Order;
 use crate::places::Places;
 use abc_pred::Name;
 use abc_term::Process;
@@ -163,11 +165,36 @@ fn raise_all(measure: Measure, places: &Places<'_>, table: &mut Vec<usize>) -> b
     changed
 }
 
-/// The least numbers that solve the equations, one for each definition.
+/// Raises numbers of definitions, as their turns come.
+fn raise_in_turn(measure: Measure, places: &Places<'_>, turns: &[usize], table: &mut Vec<usize>)
+    requires { IsRising (measure_of measure) places.now.program.now.definitions table.old.items }
+    ensures { IsRising (measure_of measure) places.now.program.now.definitions table.new.items }
+{
+    for at in turns {
+        if *at < places.program.definitions.len() {
+            raise(measure, places, table, *at);
+        }
+    }
+}
+
+/// The order in which the definitions are measured: callees before callers.
+fn turns(alloc: Global, measure: Measure, places: &Places<'_>) -> Result<Vec<usize>, NoMemory> {
+    let counted = match measure {
+        Measure::Width => Calls::All,
+        Measure::Breadth => Calls::Unguarded,
+    };
+    let graph = graph(alloc, counted, places)?;
+    Ok(Order::of(alloc, &graph)?.turns)
+}
+
+/// The least numbers that solve the equations, one for each definition. The turns settle them where no
+/// definition is on a cycle of unguarded calls or holds `|` and is on one of calls; then the loop only looks.
 pub fn table(alloc: Global, measure: Measure, places: &Places<'_>) -> Result<Vec<usize>, NoMemory>
     ensures { IfOk result (λ t. IsLeastSolution (measure_of measure) (definitions_of places.now.program.now.definitions) (number_of places.now.program.now.definitions t.items)) }
 {
     let mut table = vec![in alloc; 1; places.program.definitions.len()]?;
+    let turns = turns(alloc, measure, places)?;
+    raise_in_turn(measure, places, &turns, &mut table);
     while raise_all(measure, places, &mut table) {}
     Ok(table)
 }

@@ -1,11 +1,12 @@
-ghost use Rattle.std.specs.Prelude.{◌≡◌, map};
+ghost use Rattle.std.specs.Prelude.{◌≡◌, map, IfOk};
 ghost use Rattle.abc_pred.specs.Maps.{lists};
 ghost use Rattle.abc_pred.specs.declared.names.Name.{Name};
 ghost use Rattle.abc_checks.specs.Parts.{repeats};
 
 use abc_pred::Name;
 use abc_term::{Component, Definition};
-use abc_value::Value;
+use abc_value::{NoMemory, Value};
+use std::alloc::Global;
 
 /// What has a name.
 pub trait Named {
@@ -45,6 +46,17 @@ impl Named for Component {
     fn name(&self) -> Name {
         self.name
     }
+}
+
+/// The names of the items.
+pub fn names_of<T: Named>(alloc: Global, items: &[T]) -> Result<Vec<Name>, NoMemory>
+    ensures { IfOk result (λ v. v.items ≡ map T.name_of items.now) }
+{
+    let mut names = Vec::new(alloc);
+    for item in items {
+        names.push(item.name())?;
+    }
+    Ok(names)
 }
 
 /// Whether one of the items has the name.

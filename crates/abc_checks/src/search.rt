@@ -1,6 +1,7 @@
 ghost use Rattle.std.specs.Prelude.{◌≡◌, false, [], ◌↔◌, slice_index_or, IfOk, OnOk, IsTrue};
 ghost use Rattle.abc_checks.specs.Graphs.{Path, search_of, mark, mark_all};
 
+use crate::walk::arrows_of;
 use abc_value::{List, NoMemory};
 use std::alloc::Global;
 
@@ -41,16 +42,6 @@ impl Search {
             self.mark(*node)?;
         }
         Ok(())
-    }
-}
-
-/// The nodes to which the node has arrows.
-fn arrows_of(graph: &[List<usize>], node: usize) -> &[usize]
-    ensures { result.now ≡ slice_index_or graph.now node [] }
-{
-    match graph.get(node) {
-        Some(arrows) => arrows.as_slice(),
-        None => &[],
     }
 }
 

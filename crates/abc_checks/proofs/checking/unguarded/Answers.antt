@@ -1,11 +1,4 @@
-use Rattle.std.proofs.Common.{List, Bool, length, sym, subst}
-use Rattle.abc_checks.specs.Graphs.{SaysWhoCycles}
-use Rattle.abc_checks.specs.declared.calls.Calls.TheVariants.{Unguarded}
-use Rattle.abc_checks.proofs.Cycling.{cycling_site}
 use Rattle.abc_checks.proofs.checking.unguarded.Goals as goal
 
 pub returns : goal.returns
-returns c =
-    let p = c.args.places.now.program.now in
-    let says = subst (λ (t : List Bool). SaysWhoCycles Unguarded p.definitions t) (sym c.deref.ensures.value) c.in_ok-cycles.ensures in
-    cycling_site Unguarded p.definitions (length p.components) c.deref.result.now says c.first_site.result c.first_site.ensures
+returns c = c.first_bad_cycle.ensures

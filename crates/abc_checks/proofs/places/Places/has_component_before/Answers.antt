@@ -1,0 +1,12 @@
+use Rattle.std.proofs.Common.{ℕ, List, ◌∙◌, ap, nat_lt}
+use Rattle.abc_pred.specs.declared.names.Name.{Name}
+use Rattle.abc_term.specs.declared.terms.Component.{Component}
+use Rattle.abc_checks.specs.Firsts.{first_place}
+use Rattle.abc_checks.proofs.NamesMet.{stands_before}
+use Rattle.abc_checks.proofs.places.Places.has_component_before.Goals as goal
+
+pub returns : goal.returns
+returns c =
+    let s = c.args.self.now in
+    ap (λ (n : ℕ). nat_lt n c.args.at) (c.place.ensures ∙ ap (λ (xs : List Name). first_place xs c.args.name) s.of_components)
+    ∙ stands_before (λ (d : Component). d.name) s.program.now.components c.args.at c.args.name c.requires
