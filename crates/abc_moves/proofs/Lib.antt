@@ -7,6 +7,6 @@ pub mod Reading
 pub mod Meant
 pub mod Starting
 pub mod Whole
-pub mod Either
-pub mod Said
+pub mod Beside
 pub mod Sounding
+pub mod Leafed

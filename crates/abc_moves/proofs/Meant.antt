@@ -5,7 +5,7 @@ use Rattle.abc_pred.specs.Maps.{Entries}
 use Rattle.abc_pred.specs.Meaning.{sat}
 use Rattle.abc_term.specs.Processes.{Process, Nil, Output, Input, When, Choice, Par, Call, Definitions, body_of}
 use Rattle.abc_term.specs.Speaking.{Label}
-use Rattle.abc_term.specs.Hearing.{is_meant, is_wanted, takes, ins_of, call_ins}
+use Rattle.abc_term.specs.Hearing.{is_meant, is_wanted, ins_of, call_ins}
 use Rattle.abc_moves.specs.Walks.{ins_at}
 
 untaken : (a b c : Bool) (one none : ℕ) → none ≡ 0 → b ≡ false → (if (a && b && c) then one else none) ≡ 0

@@ -1,5 +1,5 @@
 -- A live component is sound: what follows for its counts, and for what it becomes.
-use Rattle.std.proofs.Common.{◌≡◌, ℕ, ◌<◌, ◌≤◌, ◌^◌, IsTrue, not, List, [], length, Option, Some, get_or, slice_get, refl, ap, sym, subst, ◌∙◌, arith}
+use Rattle.std.proofs.Common.{◌≡◌, ℕ, ◌<◌, ◌≤◌, ◌^◌, IsTrue, not, List, [], length, Option, Some, get_or, slice_get, inl, inr, refl, ap, sym, subst, ◌∙◌, arith}
 use Rattle.std.proofs.lemmas.Option.{slice_get_read}
 use Rattle.abc_pred.specs.declared.names.Name.{Name}
 use Rattle.abc_pred.specs.Maps.{Entries}
@@ -17,10 +17,14 @@ use Rattle.abc_checks.specs.Measures.{IsTooWide}
 use Rattle.abc_checks.specs.Facts.{IsChecked}
 use Rattle.abc_sound.specs.Built.{IsBuilt}
 use Rattle.abc_sound.specs.Sound.{IsSound}
+use Rattle.abc_sound.specs.Walks.{leaves}
 use Rattle.abc_moves.specs.Walks.{outs_at, ins_at}
-use Rattle.abc_moves.specs.Lives.{BeginsAs, StartsAs}
+use Rattle.abc_moves.specs.Lives.{BeginsAs, StartsAs, component_in, program_in}
+use Rattle.abc_moves.specs.Moves.{moved, IsMoveOf}
+use Rattle.abc_moves.specs.declared.live.Live.{Live}
+use Rattle.abc_moves.specs.declared.made.Move.{Move}
 use Rattle.abc_moves.specs.Sounds.{IsSoundUnder}
-use Rattle.abc_sound.proofs.Sounding.{programs_begin_sound, outputs_are_few, inputs_are_few, speaking_keeps_soundness, hearing_keeps_soundness}
+use Rattle.abc_sound.proofs.Sounding.{programs_begin_sound, leaves_are_few, outputs_are_few, inputs_are_few, speaking_keeps_soundness, hearing_keeps_soundness}
 
 module _ (ds : List Definition) (C : Component) (sound : ∥ IsSoundUnder ds C ∥₁) where
   pub few_outputs : outs (definitions_of ds) C ≤ 65536
@@ -28,6 +32,9 @@ module _ (ds : List Definition) (C : Component) (sound : ∥ IsSoundUnder ds C �
 
   pub few_inputs : (l : Label) → ins (definitions_of ds) C l ≤ 65536
   few_inputs l = ∥∥₁_elim sound le_prop (λ s. subst (λ (xs : List Definition). ins (definitions_of xs) C l ≤ 65536) s.1 (inputs_are_few s.0 C s.2 l))
+
+  pub few_leaves : leaves C.process ≤ 64
+  few_leaves = ∥∥₁_elim sound le_prop (λ s. leaves_are_few s.0 C s.2)
 
   spoken_under : (place : ℕ) (l : Label) (C' : Component) → Speaks (definitions_of ds) C place l C' → IsSoundUnder ds C → IsSoundUnder ds C'
   spoken_under place l C' says s =
@@ -54,6 +61,15 @@ sound-process p C C' e s = record {
 
 pub same_sound : (ds : List Definition) (C C' : Component) → C'.process ≡ C.process → ∥ IsSoundUnder ds C ∥₁ → ∥ IsSoundUnder ds C' ∥₁
 same_sound ds C C' e s = ∥∥₁_map s (λ u. (u.0, u.1, sound-process u.0 C C' e u.2))
+
+-- what a sound component becomes by a move of its own
+pub move_sound : (live : Live) (m : Move) → IsMoveOf live m → ∥ IsSoundUnder (program_in live) (moved live m) ∥₁
+move_sound live m is =
+    let C = component_in live in
+    elim is [
+      | inl s ↦ spoken_sound (program_in live) C live.sound s.0 s.1 (moved live m) s.2
+      | inr h ↦ heard_sound (program_in live) C live.sound h.0 h.1 (moved live m) h.2
+    ]
 
 -- ---- counts, as the code meets them: in what stands around the component
 module _ (own_ds : List Definition) (C : Component) (sound : ∥ IsSoundUnder own_ds C ∥₁) (ds : Definitions) (d : ℕ) (env : Entries) (at : ds ≡ definitions_of own_ds) (deep : d ≡ length ds) (own : env ≡ C.env) where

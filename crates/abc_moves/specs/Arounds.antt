@@ -1,12 +1,12 @@
 -- The moves of a process as a walk meets it: with what stands around it, and calls unfolded to a depth.
-use Rattle.std.specs.Prelude.{ℕ, IsTrue, Option, unwrap_or}
+use Rattle.std.specs.Prelude.{ℕ, IsTrue}
 use Rattle.abc_pred.specs.Maps.{Entries}
 use Rattle.abc_term.specs.Processes.{Process, Definitions}
 use Rattle.abc_term.specs.Standing.{definitions_of}
 use Rattle.abc_term.specs.Speaking.{Label}
 use Rattle.abc_term.specs.Hearing.{is_meant}
 use Rattle.abc_moves.specs.declared.around.Around.{Around}
-use Rattle.abc_moves.specs.Walks.{outs_at, ins_at, SaysAt, IsSaidAt, TakesAt}
+use Rattle.abc_moves.specs.Walks.{outs_at, ins_at, SaysAt, TakesAt}
 
 abbrev pub definitions_around : Around → Definitions
 definitions_around at = definitions_of at.bodies.definitions.now
@@ -17,18 +17,11 @@ outs_here at depth P = outs_at depth (definitions_around at) at.env.now P
 abbrev pub ins_here : Around → Label → ℕ → Process → ℕ
 ins_here at l depth P = ins_at depth (definitions_around at) l at.env.now at.interface.now P
 
-abbrev pub IsSaidHere : Around → ℕ → Process → ℕ → Label → Type 0
-IsSaidHere at depth P k l = IsSaidAt depth (definitions_around at) at.env.now at.interface.now P k l
+abbrev pub SaysHere : Around → ℕ → Process → ℕ → Label → Entries → Process → Type 0
+SaysHere at depth P k l e R = SaysAt depth (definitions_around at) at.env.now at.interface.now P k l e R
 
--- The environment after a move that makes a new one, or leaves it as it is.
-abbrev pub env_after : Around → Option Entries → Entries
-env_after at e = unwrap_or e at.env.now
-
-abbrev pub SaysHere : Around → ℕ → Process → ℕ → Label → Option Entries → Process → Type 0
-SaysHere at depth P k l e R = SaysAt depth (definitions_around at) at.env.now at.interface.now P k l (env_after at e) R
-
-abbrev pub TakesHere : Around → Label → ℕ → Process → ℕ → Option Entries → Process → Type 0
-TakesHere at l depth P k e R = TakesAt depth (definitions_around at) l at.env.now at.interface.now P k (env_after at e) R
+abbrev pub TakesHere : Around → Label → ℕ → Process → ℕ → Entries → Process → Type 0
+TakesHere at l depth P k e R = TakesAt depth (definitions_around at) l at.env.now at.interface.now P k e R
 
 -- The component is one of those for which the message is meant.
 abbrev pub IsMeantHere : Around → Label → Type 0

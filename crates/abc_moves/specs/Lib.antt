@@ -6,5 +6,7 @@ pub mod Trees
 pub mod States
 pub mod Labels
 pub mod Hears
+pub mod Sites
+pub mod Moves
 pub mod Sounds
 pub mod Lives

@@ -3,6 +3,7 @@ use Rattle.std.specs.Prelude.{◌≡◌, ℕ, List, Some, slice_get}
 use Rattle.abc_pred.specs.Maps.{ListsTheSame}
 use Rattle.abc_term.specs.declared.terms.Program.{Program}
 use Rattle.abc_term.specs.declared.terms.Component.{Component}
+use Rattle.abc_term.specs.declared.terms.Definition.{Definition}
 use Rattle.abc_term.specs.Standing.{definitions_of, component_of}
 use Rattle.abc_term.specs.Speaking.{Label, Speaks}
 use Rattle.abc_term.specs.Processes as term
@@ -12,8 +13,13 @@ use Rattle.abc_moves.specs.States.{component_at}
 abbrev pub component_in : Live → term.Component
 component_in l = component_at l.state l.fixed.interface
 
+-- The definitions under which it runs, as the program has them,
+abbrev pub program_in : Live → List Definition
+program_in l = l.definitions.now
+
+-- and as the rules do.
 abbrev pub definitions_in : Live → term.Definitions
-definitions_in l = definitions_of l.definitions.now
+definitions_in l = definitions_of (program_in l)
 
 -- The component of this number as the program begins with it. Of its interface it matters only what it lists.
 pub record BeginsAs (first now : term.Component) : Type 0 where

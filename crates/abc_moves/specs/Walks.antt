@@ -14,10 +14,10 @@ abbrev pub ComesTo : {M : Type 0} → (M → Type 0) → ℕ → ℕ → Walk M 
 ComesTo IsMove place count (Found m) = IsMove m
 ComesTo IsMove place count (Passed n) = (n ≡ count) × (n ≤ place)
 
--- What holds where it has passed all moves.
-abbrev pub OnPassed : {M : Type 0} → Type 0 → Walk M → Type 0
-OnPassed P (Found m) = Unit {0}
-OnPassed P (Passed n) = P
+-- What holds of the move that it has found.
+abbrev pub OnFound : {M : Type 0} → (M → Type 0) → Walk M → Type 0
+OnFound P (Found m) = P m
+OnFound P (Passed n) = Unit {0}
 
 -- The number of outputs, calls unfolded to a depth.
 abbrev pub outs_at : ℕ → Definitions → Entries → Process → ℕ
@@ -30,10 +30,6 @@ parts_at depth defs P = parts_of (call_parts depth defs) P
 -- ---- the moves of a process, calls unfolded to a depth
 abbrev pub SaysAt : ℕ → Definitions → Entries → List Name → Process → ℕ → Label → Entries → Process → Type 0
 SaysAt depth defs env interface P k l e R = Says env interface (call_outs depth defs env) (CallSays depth defs env interface) P k l e R
-
--- The output at a place has this label.
-abbrev pub IsSaidAt : ℕ → Definitions → Entries → List Name → Process → ℕ → Label → Type 0
-IsSaidAt depth defs env interface P k l = (e : Entries) × (R : Process) × SaysAt depth defs env interface P k l e R
 
 -- The number of inputs that take a message.
 abbrev pub ins_at : ℕ → Definitions → Label → Entries → List Name → Process → ℕ

@@ -1,24 +1,30 @@
-ghost use Rattle.std.specs.Prelude.{◌≡◌, ◌<◌, ◌≤◌, [], IfOk, OnErr, IsTrue, ◌↔◌, length, unwrap_or, Some};
+ghost use Rattle.std.specs.Prelude.{◌≡◌, ◌<◌, ◌≤◌, ◌^◌, [], All, IfOk, OnErr, IsTrue, ◌↔◌, length, unwrap_or, Some};
 ghost use Rattle.abc_term.specs.Standing.{definitions_of, component_of, set_all};
 ghost use Rattle.abc_term.specs.Speaking.{Speaks, outs};
 ghost use Rattle.abc_term.specs.Hearing.{Hears, ins};
 ghost use Rattle.abc_checks.specs.Facts.{IsChecked};
 ghost use Rattle.abc_sound.specs.Sound.{IsSound};
 ghost use Rattle.abc_sound.specs.declared.limits.TheConstants.{MOST_MOVES};
+ghost use Rattle.abc_moves.specs.Arounds.{definitions_around};
 ghost use Rattle.abc_moves.specs.Bodies.{FindsFirst};
 ghost use Rattle.abc_moves.specs.Labels.{label_of};
-ghost use Rattle.abc_moves.specs.Lives.{component_in, definitions_in, BeginsAs, StartsAs, StartAs, IsSaid};
+ghost use Rattle.abc_moves.specs.Lives.{component_in, definitions_in, program_in, BeginsAs, StartsAs, StartAs, IsSaid};
+ghost use Rattle.abc_moves.specs.Moves.{moved, moved_at, IsMoveOf};
+ghost use Rattle.abc_moves.specs.Sites.{tree_around, moved_around};
 ghost use Rattle.abc_moves.specs.Sounds.{IsSoundUnder};
 ghost use Rattle.abc_moves.specs.States.{component_at, CountsOutputs};
-ghost use Rattle.abc_moves.specs.Trees.{parts, process_in};
+ghost use Rattle.abc_moves.specs.Trees.{parts, process_in, leaves_in};
 ghost use Rattle.std.specs.Arc.{arc_value};
 
 use crate::around::Around;
 use crate::bodies::{Bodies, bodies_of, places};
+use crate::hearing::heard;
 use crate::label::Label;
-use crate::leaves::{Said, hear_at, inputs_of, label_at, outputs_of, speak_at};
+use crate::leaves::{InLeaf, hear_at, inputs_of, outputs_of, put_leaf, speak_at};
 use crate::live::{Fixed, Live};
+use crate::made::Move;
 use crate::scope::Scope;
+use crate::speaking::{said, spoken};
 use crate::state::State;
 use crate::tree::Tree;
 use crate::walk::Walk;
@@ -36,6 +42,7 @@ impl<'p> Live<'p> {
         requires exists { component < length program.now.components }
         ensures component { IfOk result (λ l. StartsAs program.now component (component_in l)) }
         ensures program { IfOk result (λ l. definitions_in l ≡ definitions_of program.now.definitions) }
+        ensures text { IfOk result (λ l. program_in l ≡ program.now.definitions) }
     {
         let first = Arc::new(alloc, places(alloc, program.definitions.as_slice())?)?;
         begun(alloc, first, program, component as usize)
@@ -47,6 +54,7 @@ impl<'p> Live<'p> {
         requires { IsChecked program.now }
         ensures count { IfOk result (λ ls. length ls ≡ length program.now.components) }
         ensures components { IfOk result (StartAs program.now) }
+        ensures text { IfOk result (All (λ l. program_in l ≡ program.now.definitions)) }
     {
         let first = Arc::new(alloc, places(alloc, program.definitions.as_slice())?)?;
         let mut lives = List::new(alloc);
@@ -90,7 +98,49 @@ impl<'p> Live<'p> {
     /// The label that the output at a place gives.
     pub fn label(&self, place: u32) -> Result<Label, NoMemory>
         requires { place < outs (definitions_in self.now) (component_in self.now) }
-        ensures { IfOk result (λ l. IsSaid (definitions_in self.now) (component_in self.now) place (label_of l)) }
+        ensures { IfOk result
+            (λ l. IsSaid (definitions_in self.now) (component_in self.now) place (label_of l)) }
+    {
+        let (label, made) = self.prepare_output(place)?;
+        drop(made);
+        Ok(label)
+    }
+
+    /// Makes the output at a place and gives its label. After `NoMemory` the component is as before.
+    pub fn speak(&mut self, place: u32) -> Result<Label, NoMemory>
+        requires { place < outs (definitions_in self.old) (component_in self.old) }
+        ensures ok { IfOk result (λ l.
+            Speaks (definitions_in self.old) (component_in self.old) place (label_of l) (component_in self.new)) }
+        ensures err { OnErr result (component_in self.new ≡ component_in self.old) }
+        ensures program { definitions_in self.new ≡ definitions_in self.old }
+        ensures text { program_in self.new ≡ program_in self.old }
+    {
+        let (label, made) = self.prepare_output(place)?;
+        self.put(made);
+        Ok(label)
+    }
+
+    /// Takes the message by the input at a place. After `NoMemory` the component is as before.
+    pub fn hear(&mut self, label: &Label, place: u32) -> Result<(), NoMemory>
+        requires { place < ins (definitions_in self.old) (component_in self.old) (label_of label.now) }
+        ensures ok { IfOk result (λ _.
+            Hears (definitions_in self.old) (component_in self.old) (label_of label.now) (Some place)
+            (component_in self.new)) }
+        ensures err { OnErr result (component_in self.new ≡ component_in self.old) }
+        ensures program { definitions_in self.new ≡ definitions_in self.old }
+        ensures text { program_in self.new ≡ program_in self.old }
+    {
+        let made = self.prepare_input(label, place)?;
+        self.put(made);
+        Ok(())
+    }
+
+    /// What the output at a place makes: its label, and the move by which the component says it. The
+    /// component stays as it is until the move is put.
+    pub fn prepare_output(&self, place: u32) -> Result<(Label, Move<'p>), NoMemory>
+        requires { place < outs (definitions_in self.now) (component_in self.now) }
+        ensures { IfOk result (λ r.
+            Speaks (definitions_in self.now) (component_in self.now) place (label_of r.0) (moved self.now r.1)) }
     {
         let bodies = bodies_of(self.definitions, &self.fixed.first);
         let at = Around::new(
@@ -99,57 +149,49 @@ impl<'p> Live<'p> {
             &self.state.env,
             &self.fixed.interface,
         );
-        match label_at(
-            self.fixed.alloc,
-            &at,
-            bodies.depth(),
-            &self.state.tree,
-            place,
-        )? {
-            Walk::Found(label) => Ok(label),
-            Walk::Passed(_) => unreachable!(),
-        }
+        spoken_at(self.fixed.alloc, &at, &self.state.tree, place)
     }
 
-    /// Makes the output at a place and gives its label. After `NoMemory` the component is as before.
-    pub fn speak(&mut self, place: u32) -> Result<Label, NoMemory>
-        requires { place < outs (definitions_in self.old) (component_in self.old) }
-        ensures ok { IfOk result (λ l. Speaks (definitions_in self.old) (component_in self.old) place (label_of l) (component_in self.new)) }
-        ensures err { OnErr result (component_in self.new ≡ component_in self.old) }
-        ensures program { definitions_in self.new ≡ definitions_in self.old }
+    /// The move by which the component takes the message at a place. The component stays as it is until
+    /// the move is put.
+    pub fn prepare_input(&self, label: &Label, place: u32) -> Result<Move<'p>, NoMemory>
+        requires { place < ins (definitions_in self.now) (component_in self.now) (label_of label.now) }
+        ensures { IfOk result (λ m.
+            Hears (definitions_in self.now) (component_in self.now) (label_of label.now) (Some place)
+            (moved self.now m)) }
     {
         let bodies = bodies_of(self.definitions, &self.fixed.first);
-        spoken(
+        let at = Around::new(
+            self.fixed.alloc,
+            &bodies,
+            &self.state.env,
+            &self.fixed.interface,
+        );
+        heard_at(self.fixed.alloc, &at, label, &self.state.tree, place)
+    }
+
+    /// Puts a move of the component in place. It takes no memory.
+    pub fn put(&mut self, made: Move<'p>)
+        requires { IsMoveOf self.old made }
+        ensures component { component_in self.new ≡ moved self.old made.entry }
+        ensures program { definitions_in self.new ≡ definitions_in self.old }
+        ensures text { program_in self.new ≡ program_in self.old }
+    {
+        let bodies = bodies_of(self.definitions, &self.fixed.first);
+        change(
             self.fixed.alloc,
             &bodies,
             &self.fixed.interface,
             &mut self.state,
-            place,
-        )
-    }
-
-    /// Takes the message by the input at a place. After `NoMemory` the component is as before.
-    pub fn hear(&mut self, label: &Label, place: u32) -> Result<(), NoMemory>
-        requires { place < ins (definitions_in self.old) (component_in self.old) (label_of label.now) }
-        ensures ok { IfOk result (λ _. Hears (definitions_in self.old) (component_in self.old) (label_of label.now) (Some place) (component_in self.new)) }
-        ensures err { OnErr result (component_in self.new ≡ component_in self.old) }
-        ensures program { definitions_in self.new ≡ definitions_in self.old }
-    {
-        let bodies = bodies_of(self.definitions, &self.fixed.first);
-        heard(
-            self.fixed.alloc,
-            &bodies,
-            &self.fixed.interface,
-            label,
-            &mut self.state,
-            place,
-        )
+            made,
+        );
     }
 
     /// An equal component, with memory of its own but for the table of definitions.
     pub fn copy(&self) -> Result<Live<'p>, NoMemory>
         ensures component { IfOk result (λ l. component_in l ≡ component_in self.now) }
         ensures program { IfOk result (λ l. definitions_in l ≡ definitions_in self.now) }
+        ensures text { IfOk result (λ l. program_in l ≡ program_in self.now) }
     {
         let first = Arc::try_clone(&self.fixed.first)?;
         let interface = self.fixed.interface.copy(self.fixed.alloc)?;
@@ -205,118 +247,80 @@ fn counted(
     outputs_of(&at, bodies.depth(), tree)
 }
 
-/// The output at a place is made: the tree moves, and what was said is given, with the environment where
-/// it is a new one. After `NoMemory` the tree is as before.
-fn said<'p>(
+/// What the output at a place makes, of a component with these things around its tree.
+fn spoken_at<'p>(
     alloc: Global,
-    bodies: &Bodies<'_, 'p>,
-    env: &Env,
-    interface: &Interface,
-    tree: &mut Tree<'p>,
+    at: &Around<'_, 'p>,
+    tree: &Tree<'p>,
     place: u32,
-) -> Result<Said, NoMemory>
-    requires { place < outs (definitions_of bodies.now.definitions.now) (parts env.now interface.now tree.old) }
-    ensures ok { IfOk result
-        (λ s. Speaks (definitions_of bodies.now.definitions.now) (parts env.now interface.now tree.old) place (label_of s.label) (parts (unwrap_or s.env env.now) interface.now tree.new)) }
-    ensures err { OnErr result (process_in tree.new ≡ process_in tree.old) }
+) -> Result<(Label, Move<'p>), NoMemory>
+    requires among { place < outs (definitions_around at.now) (tree_around at.now tree.now) }
+    requires few { leaves_in tree.now < 2 ^ 32 }
+    ensures { IfOk result (λ r.
+        Speaks (definitions_around at.now) (tree_around at.now tree.now) place (label_of r.0)
+        (moved_around at.now tree.now r.1)) }
 {
-    let at = Around::new(alloc, bodies, env, interface);
-    match speak_at(alloc, &at, bodies.depth(), tree, place)? {
-        Walk::Found(said) => Ok(said),
+    match speak_at(alloc, at, at.bodies.depth(), tree, place)? {
+        Walk::Found(InLeaf { leaf, site }) => {
+            let label = said(alloc, at, &site)?;
+            let made = spoken(alloc, at, leaf, &site)?;
+            Ok((label, made))
+        }
         Walk::Passed(_) => unreachable!(),
     }
 }
 
-/// The input at a place takes the message: the tree moves, and the environment is given where it is a new
-/// one. After `NoMemory` the tree is as before.
-fn taken<'p>(
+/// The move by which a component with these things around its tree takes the message at a place.
+fn heard_at<'p>(
     alloc: Global,
-    bodies: &Bodies<'_, 'p>,
-    env: &Env,
-    interface: &Interface,
+    at: &Around<'_, 'p>,
     label: &Label,
-    tree: &mut Tree<'p>,
+    tree: &Tree<'p>,
     place: u32,
-) -> Result<Option<Env>, NoMemory>
-    requires { place < ins (definitions_of bodies.now.definitions.now) (parts env.now interface.now tree.old) (label_of label.now) }
-    ensures ok { IfOk result
-        (λ e. Hears (definitions_of bodies.now.definitions.now) (parts env.now interface.now tree.old) (label_of label.now) (Some place) (parts (unwrap_or e env.now) interface.now tree.new)) }
-    ensures err { OnErr result (process_in tree.new ≡ process_in tree.old) }
+) -> Result<Move<'p>, NoMemory>
+    requires among { place < ins (definitions_around at.now) (tree_around at.now tree.now) (label_of label.now) }
+    requires few { leaves_in tree.now < 2 ^ 32 }
+    ensures { IfOk result (λ m.
+        Hears (definitions_around at.now) (tree_around at.now tree.now) (label_of label.now) (Some place)
+        (moved_around at.now tree.now m)) }
 {
-    let at = Around::new(alloc, bodies, env, interface);
-    match hear_at(alloc, &at, label, bodies.depth(), tree, place)? {
-        Walk::Found(env) => Ok(env),
+    match hear_at(alloc, at, label, at.bodies.depth(), tree, place)? {
+        Walk::Found(InLeaf { leaf, site }) => heard(alloc, at, label, leaf, &site),
         Walk::Passed(_) => unreachable!(),
     }
 }
 
-/// The output at a place is made: the state changes, and what was said is given. After `NoMemory` it
-/// stands for the same component as before.
-fn spoken<'p>(
-    alloc: Global,
-    bodies: &Bodies<'_, 'p>,
-    interface: &Interface,
-    state: &mut State<'p>,
-    place: u32,
-) -> Result<Label, NoMemory>
-    requires sound { ∥ IsSoundUnder bodies.now.definitions.now (component_at state.old interface.now) ∥₁ }
-    requires counted { CountsOutputs (definitions_of bodies.now.definitions.now) state.old interface.now }
-    requires among { place < outs (definitions_of bodies.now.definitions.now) (component_at state.old interface.now) }
-    ensures ok { IfOk result
-        (λ l. Speaks (definitions_of bodies.now.definitions.now) (component_at state.old interface.now) place (label_of l) (component_at state.new interface.now)) }
-    ensures counted { CountsOutputs (definitions_of bodies.now.definitions.now) state.new interface.now }
-    ensures err { OnErr result (component_at state.new interface.now ≡ component_at state.old interface.now) }
+/// The environment becomes the new one, where there is one.
+fn renew(env: &mut Env, new: Option<Env>)
+    ensures { env.new ≡ unwrap_or new env.old }
 {
-    let State { tree, env, outputs } = state;
-    let said = said(alloc, bodies, env, interface, tree, place)?;
-    let Said {
-        label,
-        env: changed,
-    } = said;
-    match changed {
-        Some(new) => {
-            *env = new;
-            *outputs = counted(alloc, bodies, env, interface, tree);
-            Ok(label)
-        }
-        None => {
-            *outputs = counted(alloc, bodies, env, interface, tree);
-            Ok(label)
-        }
+    if let Some(new) = new {
+        *env = new;
     }
 }
 
-/// The input at a place takes the message: the state changes. After `NoMemory` it stands for the same
-/// component as before.
-fn heard<'p>(
+/// The state changes by a move, and outputs are counted again.
+fn change<'p>(
     alloc: Global,
     bodies: &Bodies<'_, 'p>,
     interface: &Interface,
-    label: &Label,
     state: &mut State<'p>,
-    place: u32,
-) -> Result<(), NoMemory>
-    requires sound { ∥ IsSoundUnder bodies.now.definitions.now (component_at state.old interface.now) ∥₁ }
-    requires counted { CountsOutputs (definitions_of bodies.now.definitions.now) state.old interface.now }
-    requires among { place < ins (definitions_of bodies.now.definitions.now) (component_at state.old interface.now) (label_of label.now) }
-    ensures ok { IfOk result
-        (λ _. Hears (definitions_of bodies.now.definitions.now) (component_at state.old interface.now) (label_of label.now) (Some place) (component_at state.new interface.now)) }
+    made: Move<'p>,
+)
+    requires sound { ∥ IsSoundUnder bodies.now.definitions.now (moved_at state.old interface.now made) ∥₁ }
+    requires few { leaves_in state.old.tree < 2 ^ 32 }
+    ensures component { component_at state.new interface.now ≡ moved_at state.old interface.now made.entry }
     ensures counted { CountsOutputs (definitions_of bodies.now.definitions.now) state.new interface.now }
-    ensures err { OnErr result (component_at state.new interface.now ≡ component_at state.old interface.now) }
 {
+    let Move {
+        leaf,
+        env: new,
+        tree: leaf_tree,
+    } = made;
     let State { tree, env, outputs } = state;
-    let taken = taken(alloc, bodies, env, interface, label, tree, place)?;
-    match taken {
-        Some(new) => {
-            *env = new;
-            *outputs = counted(alloc, bodies, env, interface, tree);
-            Ok(())
-        }
-        None => {
-            *outputs = counted(alloc, bodies, env, interface, tree);
-            Ok(())
-        }
-    }
+    put_leaf(tree, leaf, leaf_tree);
+    renew(env, new);
+    *outputs = counted(alloc, bodies, env, interface, tree);
 }
 
 /// The component of this number as the program begins with it.
@@ -331,6 +335,7 @@ fn begun<'p>(
     requires finds { FindsFirst (arc_value first) program.now.definitions }
     ensures component { IfOk result (λ l. StartsAs program.now component (component_in l)) }
     ensures program { IfOk result (λ l. definitions_in l ≡ definitions_of program.now.definitions) }
+    ensures text { IfOk result (λ l. program_in l ≡ program.now.definitions) }
 {
     let component = &program.components.as_slice()[component];
     started(alloc, first, program, component)
@@ -347,6 +352,7 @@ fn started<'p>(
     requires finds { FindsFirst (arc_value first) program.now.definitions }
     ensures component { IfOk result (λ l. BeginsAs (component_of component.now) (component_in l)) }
     ensures program { IfOk result (λ l. definitions_in l ≡ definitions_of program.now.definitions) }
+    ensures text { IfOk result (λ l. program_in l ≡ program.now.definitions) }
 {
     let env = first_env(alloc, component.initial.as_slice())?;
     let interface = Interface::of(alloc, component.show.as_slice())?;

@@ -1,17 +1,16 @@
-ghost use Rattle.std.specs.Prelude.{◌≡◌, ◌<◌, ◌^◌, IfOk, OnErr};
-ghost use Rattle.abc_moves.specs.Walks.{ComesTo, OnPassed};
-ghost use Rattle.abc_moves.specs.Arounds.{outs_here, ins_here, IsSaidHere, SaysHere, TakesHere, IsMeantHere};
+ghost use Rattle.std.specs.Prelude.{◌≡◌, ◌+◌, ◌<◌, ◌^◌, IfOk};
+ghost use Rattle.abc_moves.specs.Walks.{ComesTo, OnFound};
+ghost use Rattle.abc_moves.specs.Arounds.{outs_here, ins_here, IsMeantHere};
 ghost use Rattle.abc_moves.specs.Labels.{label_of};
-ghost use Rattle.abc_moves.specs.Trees.{process_in};
+ghost use Rattle.abc_moves.specs.Sites.{SaysInTree, TakesInTree};
+ghost use Rattle.abc_moves.specs.Trees.{process_in, process_with, leaves_in};
 
 use crate::around::Around;
-use crate::hearing::hear;
+use crate::hearing::{Taking, input_at};
 use crate::label::Label;
-use crate::moved::Moved;
-use crate::speaking::speak;
+use crate::speaking::{Saying, output_at};
 use crate::tree::Tree;
 use crate::walk::{Walk, inputs, is_meant, outputs};
-use abc_pred::Env;
 use abc_value::NoMemory;
 use std::alloc::Global;
 
@@ -52,72 +51,60 @@ pub fn inputs_of(at: &Around<'_, '_>, label: &Label, depth: usize, tree: &Tree<'
     }
 }
 
-/// A walk over the leaves for the label of the output at a place. The move is made and let go.
-pub fn label_at<'p>(
-    alloc: Global,
-    at: &Around<'_, 'p>,
-    depth: usize,
-    tree: &Tree<'p>,
-    place: u32,
-) -> Result<Walk<Label>, NoMemory>
-    ensures { IfOk result (ComesTo
-        (λ l. IsSaidHere at.now depth (process_in tree.now) place (label_of l))
-        place (outs_here at.now depth (process_in tree.now))) }
+/// The number of leaves.
+fn leaves(tree: &Tree<'_>) -> u32
+    requires { leaves_in tree.now < 2 ^ 32 }
+    ensures { result ≡ leaves_in tree.now }
 {
     match tree {
-        Tree::Leaf(p, scope) => match speak(alloc, at, depth, scope, p, place)? {
-            Walk::Found(moved) => Ok(Walk::Found(Moved::said(moved))),
-            Walk::Passed(n) => Ok(Walk::Passed(n)),
-        },
-        Tree::Par(sides) => match label_at(alloc, at, depth, &sides.left, place)? {
-            Walk::Found(l) => Ok(Walk::Found(l)),
-            Walk::Passed(n) => match label_at(alloc, at, depth, &sides.right, place - n)? {
-                Walk::Found(l) => Ok(Walk::Found(l)),
-                Walk::Passed(m) => Ok(Walk::Passed(n + m)),
-            },
-        },
+        Tree::Leaf(_, _) => 1,
+        Tree::Par(sides) => leaves(&sides.left) + leaves(&sides.right),
     }
 }
 
-/// What a move leaves besides its tree: what was said, and the environment where it is a new one.
+/// An action that a walk over the leaves has found, with the number of its leaf.
 #[derive(Drop)]
-pub struct Said {
-    pub label: Label,
-    pub env: Option<Env>,
+pub struct InLeaf<S> {
+    pub leaf: u32,
+    pub site: S,
 }
 
-/// A walk over the leaves for the output at a place, which is made: its leaf moves, and the other leaves
-/// stay where they are. Where there is none, and after `NoMemory`, the tree is as before.
-pub fn speak_at<'p>(
+impl<S: Drop> InLeaf<S> {
+    /// The same action, where so many leaves stand before.
+    fn behind(self, before: u32) -> InLeaf<S>
+        requires { before + self.leaf < 2 ^ 32 }
+        ensures { result ≡ record { leaf = before + self.leaf; site = self.site } }
+    {
+        let InLeaf { leaf, site } = self;
+        InLeaf {
+            leaf: before + leaf,
+            site,
+        }
+    }
+}
+
+/// A walk over the leaves for the output at a place.
+pub fn speak_at<'a, 'p>(
     alloc: Global,
-    at: &Around<'_, 'p>,
+    at: &'a Around<'_, 'p>,
     depth: usize,
-    tree: &mut Tree<'p>,
+    tree: &'a Tree<'p>,
     place: u32,
-) -> Result<Walk<Said>, NoMemory>
+) -> Result<Walk<InLeaf<Saying<'a, 'p>>>, NoMemory>
+    requires { leaves_in tree.now < 2 ^ 32 }
     ensures ok { IfOk result (ComesTo
-        (λ s. SaysHere at.now depth (process_in tree.old) place (label_of s.label) s.env (process_in tree.new))
-        place (outs_here at.now depth (process_in tree.old))) }
-    ensures stays { IfOk result (OnPassed (process_in tree.new ≡ process_in tree.old)) }
-    ensures err { OnErr result (process_in tree.new ≡ process_in tree.old) }
+        (λ s. SaysInTree at.now depth tree.now place s.leaf s.site.value) place (outs_here at.now depth (process_in tree.now))) }
+    ensures leaf { IfOk result (OnFound (λ s. s.leaf < leaves_in tree.now)) }
 {
     match tree {
-        Tree::Leaf(p, scope) => match speak(alloc, at, depth, scope, p, place)? {
-            Walk::Found(moved) => {
-                let Moved {
-                    said: label,
-                    env,
-                    tree: leaf,
-                } = Box::into_inner(moved);
-                *tree = leaf;
-                Ok(Walk::Found(Said { label, env }))
-            }
+        Tree::Leaf(p, scope) => match output_at(alloc, at, depth, scope, p, place)? {
+            Walk::Found(site) => Ok(Walk::Found(InLeaf { leaf: 0, site })),
             Walk::Passed(n) => Ok(Walk::Passed(n)),
         },
-        Tree::Par(sides) => match speak_at(alloc, at, depth, &mut sides.left, place)? {
+        Tree::Par(sides) => match speak_at(alloc, at, depth, &sides.left, place)? {
             Walk::Found(s) => Ok(Walk::Found(s)),
-            Walk::Passed(n) => match speak_at(alloc, at, depth, &mut sides.right, place - n)? {
-                Walk::Found(s) => Ok(Walk::Found(s)),
+            Walk::Passed(n) => match speak_at(alloc, at, depth, &sides.right, place - n)? {
+                Walk::Found(s) => Ok(Walk::Found(s.behind(leaves(&sides.left)))),
                 Walk::Passed(m) => Ok(Walk::Passed(n + m)),
             },
         },
@@ -125,45 +112,53 @@ pub fn speak_at<'p>(
 }
 
 /// A walk over the leaves for the input at a place, among those that take a message which is meant for the
-/// component. It takes the message: its leaf moves, and the other leaves stay where they are. What is given
-/// is the environment where it is a new one. Where there is no such input, and after `NoMemory`, the tree
-/// is as before.
-pub fn hear_at<'p>(
+/// component.
+pub fn hear_at<'a, 'p>(
     alloc: Global,
-    at: &Around<'_, 'p>,
+    at: &'a Around<'_, 'p>,
     label: &Label,
     depth: usize,
-    tree: &mut Tree<'p>,
+    tree: &'a Tree<'p>,
     place: u32,
-) -> Result<Walk<Option<Env>>, NoMemory>
-    requires { IsMeantHere at.now (label_of label.now) }
+) -> Result<Walk<InLeaf<Taking<'a, 'p>>>, NoMemory>
+    requires meant { IsMeantHere at.now (label_of label.now) }
+    requires few { leaves_in tree.now < 2 ^ 32 }
     ensures ok { IfOk result (ComesTo
-        (λ e. TakesHere at.now (label_of label.now) depth (process_in tree.old) place e (process_in tree.new))
-        place (ins_here at.now (label_of label.now) depth (process_in tree.old))) }
-    ensures stays { IfOk result (OnPassed (process_in tree.new ≡ process_in tree.old)) }
-    ensures err { OnErr result (process_in tree.new ≡ process_in tree.old) }
+        (λ s. TakesInTree at.now (label_of label.now) depth tree.now place s.leaf s.site.value)
+        place (ins_here at.now (label_of label.now) depth (process_in tree.now))) }
+    ensures leaf { IfOk result (OnFound (λ s. s.leaf < leaves_in tree.now)) }
 {
     match tree {
-        Tree::Leaf(p, scope) => match hear(alloc, at, label, depth, scope, p, place)? {
-            Walk::Found(moved) => {
-                let Moved {
-                    said: (),
-                    env,
-                    tree: leaf,
-                } = Box::into_inner(moved);
-                *tree = leaf;
-                Ok(Walk::Found(env))
-            }
+        Tree::Leaf(p, scope) => match input_at(alloc, at, label, depth, scope, p, place)? {
+            Walk::Found(site) => Ok(Walk::Found(InLeaf { leaf: 0, site })),
             Walk::Passed(n) => Ok(Walk::Passed(n)),
         },
-        Tree::Par(sides) => match hear_at(alloc, at, label, depth, &mut sides.left, place)? {
-            Walk::Found(env) => Ok(Walk::Found(env)),
+        Tree::Par(sides) => match hear_at(alloc, at, label, depth, &sides.left, place)? {
+            Walk::Found(s) => Ok(Walk::Found(s)),
             Walk::Passed(n) => {
-                match hear_at(alloc, at, label, depth, &mut sides.right, place - n)? {
-                    Walk::Found(env) => Ok(Walk::Found(env)),
+                match hear_at(alloc, at, label, depth, &sides.right, place - n)? {
+                    Walk::Found(s) => Ok(Walk::Found(s.behind(leaves(&sides.left)))),
                     Walk::Passed(m) => Ok(Walk::Passed(n + m)),
                 }
             }
         },
+    }
+}
+
+/// The leaf of this number becomes another tree. It takes no memory.
+pub fn put_leaf<'p>(tree: &mut Tree<'p>, leaf: u32, made: Tree<'p>)
+    requires { leaves_in tree.old < 2 ^ 32 }
+    ensures { process_in tree.new ≡ process_with tree.old leaf (process_in made.entry) }
+{
+    match tree {
+        Tree::Leaf(_, _) => *tree = made,
+        Tree::Par(sides) => {
+            let left = leaves(&sides.left);
+            if leaf < left {
+                put_leaf(&mut sides.left, leaf, made);
+            } else {
+                put_leaf(&mut sides.right, leaf - left, made);
+            }
+        }
     }
 }

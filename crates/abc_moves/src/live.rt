@@ -23,9 +23,9 @@ pub struct Fixed {
 /// A component as it runs: its environment, its interface, and its process as a tree of parallel leaves.
 ///
 /// Each leaf is a part of the program with bindings beside it. Contracts see the component of the rules
-/// that it stands for, which is always a sound one: so its moves are few, and their counts fit. It shares
-/// with the program's other components the table of definitions, and keeps the allocator. It may go to
-/// another thread.
+/// that it stands for, which is always a sound one: so its moves are few, and their counts fit. The table
+/// of definitions is its own where `start` made it; components of one `start_all`, and copies, share it. It
+/// keeps the allocator. It may go to another thread.
 #[derive(Drop)]
 pub struct Live<'p> {
     /// Those of the program.

@@ -1,6 +1,5 @@
-use Rattle.std.proofs.Common.{◌≡◌, ◌∙◌, ◌<◌, ℕ, ◌+◌, Some, None, length, sym, ap, zero-add, arith, rules}
+use Rattle.std.proofs.Common.{◌≡◌, ◌∙◌, ◌<◌, Some, None, length, sym, ap, zero-add, arith, rules}
 use Rattle.std.proofs.lemmas.Grind.{common_steps}
-use Rattle.abc_pred.specs.declared.names.Name.{Name}
 use Rattle.abc_moves.specs.Bodies.{place_from}
 use Rattle.abc_moves.proofs.Finding.{found_within, found_body, found_none}
 use Rattle.abc_moves.proofs.bodies.Bodies.body.Goals as goal

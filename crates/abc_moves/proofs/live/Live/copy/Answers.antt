@@ -1,9 +1,8 @@
-use Rattle.std.proofs.Common.{◌≡◌, ◌∙◌, ℕ, List, nat_eq, subst, sym}
+use Rattle.std.proofs.Common.{◌∙◌, nat_eq, sym}
 use Rattle.std.specs.HashMap.{get}
 use Rattle.abc_term.specs.Standing.{definitions_of}
 use Rattle.abc_term.specs.Speaking.{outs}
 use Rattle.abc_moves.specs.States.{component_at}
-use Rattle.abc_moves.specs.Bodies.{place_from}
 use Rattle.abc_moves.proofs.Sounding.{same_sound}
 use Rattle.abc_moves.proofs.live.Live.copy.Goals as goal
 

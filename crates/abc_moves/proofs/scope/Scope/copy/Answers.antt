@@ -1,4 +1,4 @@
-use Rattle.std.proofs.Common.{◌≡◌, ◌∙◌}
+use Rattle.std.proofs.Common.{◌∙◌}
 use Rattle.abc_moves.proofs.Scoped.{scope_copied, values_copied}
 use Rattle.abc_moves.proofs.scope.Scope.copy.Goals as goal
 

@@ -1,7 +1,0 @@
-use Rattle.abc_term.specs.Standing.{process_of}
-use Rattle.abc_moves.specs.Arounds.{definitions_around}
-use Rattle.abc_moves.specs.Walks.{parts_at}
-use Rattle.abc_moves.proofs.speaking.+speak.Given as goal
-
-abbrev pub decreases-speak : goal.decreases-speak
-decreases-speak l = parts_at l.depth (definitions_around l.at.now) (process_of l.p.now)
