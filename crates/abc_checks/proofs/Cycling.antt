@@ -1,5 +1,5 @@
 -- The first definition that is on a cycle that it may not be on.
-use Rattle.std.proofs.Common.{◌≡◌, ◌<◌, ◌↔◌, ℕ, Bool, IsTrue, List, None, Some, sym, subst}
+use Rattle.std.proofs.Common.{◌≡◌, ◌<◌, ◌↔◌, ℕ, Bool, false, IsTrue, List, length, None, Some, sym, subst}
 use Rattle.std.specs.Prelude.{true, Result, Ok, Err, IfOk}
 use Rattle.abc_term.specs.declared.terms.Definition.{Definition}
 use Rattle.abc_term.specs.Standing.{process_of, definitions_of}

@@ -7,13 +7,12 @@ use Rattle.abc_value.specs.declared.value.Value.{Value}
 use Rattle.abc_value.specs.declared.value.Value.TheVariants as v
 use Rattle.abc_value.specs.Sets.{set_of}
 use Rattle.abc_value.specs.Values.{fits_64}
-use Rattle.abc_pred.specs.declared.names.Name.{Name}
 use Rattle.abc_pred.specs.Terms.{Operand}
 use Rattle.abc_pred.specs.Terms as o
 use Rattle.abc_grammar.specs.declared.lexemes.Lexeme.{Lexeme}
 use Rattle.abc_grammar.specs.declared.lexemes.Lexeme.TheVariants as l
-use Rattle.abc_grammar.specs.declared.lexemes.Mark.TheVariants as m
-use Rattle.abc_grammar.specs.declared.lexemes.Keyword.TheVariants as k
+use Rattle.abc_text.specs.declared.words.Mark.TheVariants as m
+use Rattle.abc_text.specs.declared.words.Keyword.TheVariants as k
 use Rattle.abc_grammar.specs.Listed.{AreListed, MayBeListed}
 use Rattle.abc_grammar.specs.Listed as listed
 use Rattle.abc_grammar.specs.Literals.{IsScalar, IsLiteral}

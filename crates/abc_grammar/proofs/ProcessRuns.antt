@@ -6,8 +6,8 @@ use Rattle.abc_term.specs.Processes.{Process, Update}
 use Rattle.abc_term.specs.Processes as P
 use Rattle.abc_grammar.specs.declared.lexemes.Lexeme.{Lexeme}
 use Rattle.abc_grammar.specs.declared.lexemes.Lexeme.TheVariants as l
-use Rattle.abc_grammar.specs.declared.lexemes.Mark.TheVariants as m
-use Rattle.abc_grammar.specs.declared.lexemes.Keyword.TheVariants as k
+use Rattle.abc_text.specs.declared.words.Mark.TheVariants as m
+use Rattle.abc_text.specs.declared.words.Keyword.TheVariants as k
 use Rattle.abc_grammar.specs.Listed.{AreListed, MayBeListed, AreRepeated, IsVariable}
 use Rattle.abc_grammar.specs.Listed as listed
 use Rattle.abc_grammar.specs.Exprs.{IsExpr}

@@ -8,8 +8,8 @@ use Rattle.abc_pred.specs.Terms.{Operand, Expr, Pred}
 use Rattle.abc_term.specs.Processes.{Process, Update}
 use Rattle.abc_grammar.specs.declared.lexemes.Lexeme.{Lexeme}
 use Rattle.abc_grammar.specs.declared.lexemes.Lexeme.TheVariants as l
-use Rattle.abc_grammar.specs.declared.lexemes.Mark.TheVariants as m
-use Rattle.abc_grammar.specs.declared.lexemes.Keyword.TheVariants as k
+use Rattle.abc_text.specs.declared.words.Mark.TheVariants as m
+use Rattle.abc_text.specs.declared.words.Keyword.TheVariants as k
 use Rattle.abc_grammar.specs.Listed.{AreListed, MayBeListed, AreRepeated, IsName, IsVariable}
 use Rattle.abc_grammar.specs.Listed as listed
 use Rattle.abc_grammar.specs.Literals.{IsScalar, IsLiteral}

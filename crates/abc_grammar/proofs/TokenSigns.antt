@@ -1,8 +1,7 @@
 -- The signs of a text's tokens and those of its lexemes are one notion.
-use Rattle.std.proofs.Common.{◌≡◌, ℕ, ◌+◌, ◌<◌, ◌^◌, ◌⊎◌, inl, inr, Bool, true, false, List, [], ◌∷◌, ◌++◌, length, Option, Some, None, refl, sym, ap, ◌∙◌, subst, arith, length-append, append_assoc}
-use Rattle.std.specs.Prelude.{map, not, ◌||◌, ◌&&◌, is_some, if◌then◌else◌, codes}
-use Rattle.std.specs.Str.{bytes_eq}
-use Rattle.std.proofs.lemmas.Slice.Eq.{bytes_eq-Decides}
+use Rattle.std.proofs.Common.{◌≡◌, ℕ, ◌<◌, ◌^◌, ◌⊎◌, inl, inr, Bool, true, false, List, [], ◌∷◌, ◌++◌, length, Option, Some, None, refl, sym, ap, ◌∙◌, arith, length-append, append_assoc}
+use Rattle.std.specs.Prelude.{map, not, ◌&&◌, if◌then◌else◌}
+use Rattle.std.specs.Option.{option_map_or}
 use Rattle.abc_text.specs.declared.lexical.TokenKind.{TokenKind}
 use Rattle.abc_text.specs.declared.lexical.TokenKind.TheVariants.{Word, Variable, Number, Text, Symbol}
 use Rattle.abc_text.specs.declared.lexical.Before.{Before}
@@ -10,28 +9,27 @@ use Rattle.abc_text.specs.declared.lexical.Before.TheVariants.{Open, Operand, Si
 use Rattle.abc_text.specs.declared.lexical.Token.{Token}
 use Rattle.abc_text.specs.declared.lexical.Fault.{Fault}
 use Rattle.abc_text.specs.Tokens as text
-use Rattle.abc_text.specs.Tokens.{is_keyword, is_literal_word, stands_after, Reads}
-use Rattle.abc_text.specs.Meanings.{spelling, number_of, signs_from, token_signs}
+use Rattle.abc_text.specs.Tokens.{stands_after, Reads}
+use Rattle.abc_text.specs.Words.{keyword_at, mark_at, is_literal, closes_operand, is_dash}
+use Rattle.abc_text.specs.Meanings.{spelling, number_of, signs_from}
 use Rattle.abc_text.specs.Laws as tokens
 use Rattle.abc_text.proofs.Numbers.{numbers_fit}
 use Rattle.abc_grammar.specs.declared.lexemes.Lexeme.{Lexeme}
 use Rattle.abc_grammar.specs.declared.lexemes.Lexeme.TheVariants as l
-use Rattle.abc_grammar.specs.declared.lexemes.Mark.{Mark}
-use Rattle.abc_grammar.specs.declared.lexemes.Mark.TheVariants as m
-use Rattle.abc_grammar.specs.declared.lexemes.Keyword.{Keyword}
-use Rattle.abc_grammar.specs.declared.lexemes.Keyword.TheVariants as k
-use Rattle.abc_grammar.specs.Lexemes.{keyword_text, keyword_at, mark_text, mark_at, word_lexeme, symbol_lexeme, lexeme_by, lexeme_of, lexemes_of}
+use Rattle.abc_text.specs.declared.words.Mark.{Mark}
+use Rattle.abc_text.specs.declared.words.Mark.TheVariants as m
+use Rattle.abc_text.specs.declared.words.Keyword.{Keyword}
+use Rattle.abc_text.specs.declared.words.Keyword.TheVariants as k
+use Rattle.abc_grammar.specs.Lexemes.{word_lexeme, symbol_lexeme, lexeme_by, lexeme_of, lexemes_of}
 use Rattle.abc_grammar.specs.Sizes.{ends_operand, is_minus}
 use Rattle.abc_grammar.specs.Plain.{PlainProgram}
 use Rattle.abc_grammar.specs.Programs.{IsProgram}
 use Rattle.abc_grammar.specs.SignLaws.{signs, program_signs}
 use Rattle.abc_grammar.specs.TokenSigns.{EndsWithSign, EndsWithMinus, SignsAreOne}
-use Rattle.abc_grammar.proofs.LexemesMeant.{lexemes_agree}
-use Rattle.abc_grammar.proofs.Signs.{signs-append, ends, signs_are_of_literals}
+use Rattle.abc_grammar.proofs.Signs.{signs-append, signs_are_of_literals}
 
 -- ---- one token
-keyword_ends : (k : Keyword) → ends_operand (l.Keyword k) ≡ is_literal_word (keyword_text k)
-unfolding is_literal_word
+keyword_ends : (k : Keyword) → ends_operand (l.Keyword k) ≡ is_literal k
 keyword_ends k.Abc = refl
 keyword_ends k.And = refl
 keyword_ends k.Comp = refl
@@ -54,20 +52,15 @@ keyword_ends k.Union = refl
 keyword_ends k.When = refl
 keyword_ends k.Without = refl
 
-word_ends : (words : List (List ℕ)) (word : List ℕ) (o : Option Keyword) → keyword_at word ≡ o → ends_operand (word_lexeme words word o)
-    ≡ (not (is_keyword word) || is_literal_word word)
-word_ends words word (Some k) e =
-    let is : is_keyword word ≡ true = sym (lexemes_agree.is_keyword word) ∙ ap is_some e in
-    keyword_ends k ∙ ap is_literal_word (lexemes_agree.keyword_back word k e) ∙ ap (λ (b : Bool). not b || is_literal_word word) (sym is)
-word_ends words word None e =
-    let is : is_keyword word ≡ false = sym (lexemes_agree.is_keyword word) ∙ ap is_some e in
-    ap (λ (b : Bool). not b || is_literal_word word) (sym is)
+word_ends : (words : List (List ℕ)) (word : List ℕ) (o : Option Keyword) → ends_operand (word_lexeme words word o) ≡ option_map_or is_literal o true
+word_ends words word (Some k) = keyword_ends k
+word_ends words word None = refl
 
 word_minus : (words : List (List ℕ)) (word : List ℕ) (o : Option Keyword) → is_minus (word_lexeme words word o) ≡ false
 word_minus words word (Some k) = refl
 word_minus words word None = refl
 
-mark_ends : (m : Mark) → ends_operand (l.Mark m) ≡ (bytes_eq (mark_text m) (codes ")") || bytes_eq (mark_text m) (codes "}"))
+mark_ends : (m : Mark) → ends_operand (l.Mark m) ≡ closes_operand m
 mark_ends m.OpenRound = refl
 mark_ends m.CloseRound = refl
 mark_ends m.OpenCurly = refl
@@ -87,7 +80,7 @@ mark_ends m.Below = refl
 mark_ends m.Equal = refl
 mark_ends m.Becomes = refl
 
-mark_minus : (m : Mark) → is_minus (l.Mark m) ≡ bytes_eq (mark_text m) (codes "-")
+mark_minus : (m : Mark) → is_minus (l.Mark m) ≡ is_dash m
 mark_minus m.OpenRound = refl
 mark_minus m.CloseRound = refl
 mark_minus m.OpenCurly = refl
@@ -107,37 +100,21 @@ mark_minus m.Below = refl
 mark_minus m.Equal = refl
 mark_minus m.Becomes = refl
 
--- what is no mark is spelled as none
-no_mark : (symbol : List ℕ) (m : Mark) → mark_at symbol ≡ None → bytes_eq symbol (mark_text m) ≡ false
-no_mark symbol m none = by (bytes_eq symbol (mark_text m)) refl
-  where
-    by : (b : Bool) → bytes_eq symbol (mark_text m) ≡ b → b ≡ false
-    by false e = refl
-    by true e =
-        let found : mark_at symbol ≡ Some m = ap mark_at ((bytes_eq-Decides symbol (mark_text m)).0 e) ∙ lexemes_agree.mark m in
-        let both : None ≡ Some m = sym none ∙ found in
-        absurd (cc)
+symbol_ends : (o : Option Mark) → ends_operand (symbol_lexeme o) ≡ option_map_or closes_operand o false
+symbol_ends (Some m) = mark_ends m
+symbol_ends None = refl
 
-symbol_ends : (symbol : List ℕ) (o : Option Mark) → mark_at symbol ≡ o →
-    ends_operand (symbol_lexeme o) ≡ (bytes_eq symbol (codes ")") || bytes_eq symbol (codes "}"))
-symbol_ends symbol (Some m) e = mark_ends m ∙ ap (λ (s : List ℕ). bytes_eq s (codes ")") || bytes_eq s (codes "}"))
-    (lexemes_agree.mark_back symbol m e)
-symbol_ends symbol None e =
-    let round : bytes_eq symbol (codes ")") ≡ false = no_mark symbol m.CloseRound e in
-    let curly : bytes_eq symbol (codes "}") ≡ false = no_mark symbol m.CloseCurly e in
-    λ i. sym round i || sym curly i
-
-symbol_minus : (symbol : List ℕ) (o : Option Mark) → mark_at symbol ≡ o → is_minus (symbol_lexeme o) ≡ bytes_eq symbol (codes "-")
-symbol_minus symbol (Some m) e = mark_minus m ∙ ap (λ (s : List ℕ). bytes_eq s (codes "-")) (lexemes_agree.mark_back symbol m e)
-symbol_minus symbol None e = sym (no_mark symbol m.Minus e)
+symbol_minus : (o : Option Mark) → is_minus (symbol_lexeme o) ≡ option_map_or is_dash o false
+symbol_minus (Some m) = mark_minus m
+symbol_minus None = refl
 
 ends_by : (words : List (List ℕ)) (bytes : List ℕ) (t : Token) (kind : TokenKind) → ends_operand (lexeme_by words bytes t kind)
     ≡ text.ends_operand kind (spelling bytes t)
-ends_by words bytes t Word = word_ends words (spelling bytes t) (keyword_at (spelling bytes t)) refl
+ends_by words bytes t Word = word_ends words (spelling bytes t) (keyword_at (spelling bytes t))
 ends_by words bytes t Variable = refl
 ends_by words bytes t Number = refl
 ends_by words bytes t Text = refl
-ends_by words bytes t Symbol = symbol_ends (spelling bytes t) (mark_at (spelling bytes t)) refl
+ends_by words bytes t Symbol = symbol_ends (mark_at (spelling bytes t))
 
 minus_by : (words : List (List ℕ)) (bytes : List ℕ) (t : Token) (kind : TokenKind) → is_minus (lexeme_by words bytes t kind) ≡ text.is_minus kind
     (spelling bytes t)
@@ -145,7 +122,7 @@ minus_by words bytes t Word = word_minus words (spelling bytes t) (keyword_at (s
 minus_by words bytes t Variable = refl
 minus_by words bytes t Number = refl
 minus_by words bytes t Text = refl
-minus_by words bytes t Symbol = symbol_minus (spelling bytes t) (mark_at (spelling bytes t)) refl
+minus_by words bytes t Symbol = symbol_minus (mark_at (spelling bytes t))
 
 -- ---- all tokens
 -- the token before may end an operand

@@ -11,13 +11,12 @@ use Rattle.abc_value.specs.declared.value.Value.TheVariants as v
 use Rattle.abc_pred.specs.Terms as t
 use Rattle.abc_cause.specs.declared.Cause.{Cause}
 use Rattle.abc_cause.specs.declared.Cause.TheVariants as cause
-use Rattle.abc_text.specs.Tokens.{is_keyword}
 use Rattle.abc_text.specs.declared.lexical.Fault.{Fault}
 use Rattle.abc_grammar.specs.declared.lexemes.Lexeme.{Lexeme}
 use Rattle.abc_grammar.specs.declared.lexemes.Lexeme.TheVariants as l
-use Rattle.abc_grammar.specs.declared.lexemes.Mark.TheVariants as m
-use Rattle.abc_grammar.specs.declared.lexemes.Keyword.TheVariants as k
-use Rattle.abc_grammar.specs.Lexemes.{keyword_at, mark_at}
+use Rattle.abc_text.specs.declared.words.Mark.TheVariants as m
+use Rattle.abc_text.specs.declared.words.Keyword.TheVariants as k
+use Rattle.abc_text.specs.Words.{keyword_at, mark_at}
 use Rattle.abc_grammar.specs.Listed.{AreListed, IsVariable}
 use Rattle.abc_grammar.specs.Listed as listed
 use Rattle.abc_grammar.specs.Literals.{IsScalar}
@@ -44,11 +43,11 @@ use Rattle.abc_grammar.proofs.ProgramRuns.{program_run}
 
 -- ---- what tokens stand for
 pub in_in : InIn
-unfolding keyword_at mark_at is_keyword
+unfolding keyword_at mark_at
 in_in = refl
 
 pub becomes_007 : Becomes007
-unfolding keyword_at mark_at is_keyword
+unfolding keyword_at mark_at
 becomes_007 = refl
 
 -- ---- operands

@@ -1,15 +1,15 @@
 -- The examples of limits.
-use Rattle.std.proofs.Common.{◌≡◌, ℕ, zero, suc, ◌+◌, ◌≤◌, ◌<◌, Bool, true, false, List, [], ◌∷◌, ◌++◌, length, take, refl, sym, ap, ◌∙◌, subst, arith, length-append, length-take-le}
+use Rattle.std.proofs.Common.{◌≡◌, ℕ, zero, suc, ◌≤◌, ◌<◌, Bool, true, false, List, [], ◌∷◌, ◌++◌, length, take, refl, sym, ap, ◌∙◌, subst, arith, length-append, length-take-le}
 use Rattle.std.specs.Prelude.{replicate, fold, IsTrue, if◌then◌else◌}
 use Rattle.std.proofs.lemmas.List.{length-replicate}
 use Rattle.std.proofs.Math.Seq.{take-append_seam}
 use Rattle.abc_grammar.specs.declared.lexemes.Lexeme.{Lexeme}
 use Rattle.abc_grammar.specs.declared.lexemes.Lexeme.TheVariants as l
-use Rattle.abc_grammar.specs.declared.lexemes.Mark.TheVariants as m
-use Rattle.abc_grammar.specs.declared.lexemes.Keyword.TheVariants as k
-use Rattle.abc_grammar.specs.Limits.{At, starts_item, open_behind, IsTooDeep, IsTooLarge, BeginsExtraToken}
-use Rattle.abc_grammar.specs.Sizes.{Spot, Free, Signed, spot_behind, counts, size_from, size_of}
-use Rattle.abc_grammar.specs.Examples.{run_a, ones, variables}
+use Rattle.abc_text.specs.declared.words.Mark.TheVariants as m
+use Rattle.abc_text.specs.declared.words.Keyword.TheVariants as k
+use Rattle.abc_grammar.specs.Limits.{At, starts_item, IsTooDeep, IsTooLarge, BeginsExtraToken}
+use Rattle.abc_grammar.specs.Sizes.{Spot, Free, spot_behind, counts, size_from}
+use Rattle.abc_grammar.specs.Examples.{ones}
 use Rattle.abc_grammar.specs.LimitExamples.{zeros, BracketLimits, TokenLimits, PartLimits}
 use Rattle.abc_grammar.proofs.Worked.{no_start}
 use Rattle.abc_grammar.proofs.Short.{few_open}

@@ -2,12 +2,11 @@
 use Rattle.std.proofs.Common.{List, [], ◌∷◌, ◌++◌, refl}
 use Rattle.abc_pred.specs.Terms as t
 use Rattle.abc_term.specs.Processes as P
-use Rattle.abc_text.specs.Tokens.{is_keyword}
 use Rattle.abc_grammar.specs.declared.lexemes.Lexeme.{Lexeme}
 use Rattle.abc_grammar.specs.declared.lexemes.Lexeme.TheVariants as l
-use Rattle.abc_grammar.specs.declared.lexemes.Mark.TheVariants as m
-use Rattle.abc_grammar.specs.declared.lexemes.Keyword.TheVariants as k
-use Rattle.abc_grammar.specs.Lexemes.{keyword_at, mark_at}
+use Rattle.abc_text.specs.declared.words.Mark.TheVariants as m
+use Rattle.abc_text.specs.declared.words.Keyword.TheVariants as k
+use Rattle.abc_text.specs.Words.{keyword_at, mark_at}
 use Rattle.abc_grammar.specs.Listed as listed
 use Rattle.abc_grammar.specs.Literals as lit
 use Rattle.abc_grammar.specs.Operands as o
@@ -100,7 +99,7 @@ two_of_each =
     (listed.more {ts = []} {us = first_component} {items = []} listed.none hears_first) speaks_second)
 
 pub name_places : NamePlaces
-unfolding keyword_at mark_at is_keyword
+unfolding keyword_at mark_at
 name_places = record {
   meant = refl;
   definition = refl;

@@ -1,12 +1,11 @@
 -- Whole texts worked through the definitions.
 use Rattle.std.proofs.Common.{ℕ, zero, suc, ◌<◌, List, [], ◌∷◌, ◌++◌, None, refl, arith}
 use Rattle.std.specs.Prelude.{codes}
-use Rattle.abc_pred.specs.declared.names.Name.{Name}
 use Rattle.abc_cause.specs.declared.CheckCause.{CheckCause}
 use Rattle.abc_cause.specs.declared.CheckCause.TheVariants as check
 use Rattle.abc_text.specs.declared.lexical.TokenKind.TheVariants.{Word, Number, Symbol}
 use Rattle.abc_text.specs.declared.lexical.Token.{Token}
-use Rattle.abc_text.specs.Tokens.{skip, is_keyword, is_literal_word, number_token, text_token, next, stands_after, Reads}
+use Rattle.abc_text.specs.Tokens.{skip, number_token, text_token, next, stands_after, Reads}
 use Rattle.abc_term.specs.declared.terms.Program.{Program}
 use Rattle.abc_term.specs.Processes as term
 use Rattle.abc_checks.specs.declared.causes.Site.{Site}
@@ -15,9 +14,9 @@ use Rattle.abc_checks.specs.Sites.{AtSite, ComesBefore}
 use Rattle.abc_checks.specs.Facts.{HasFact, IsChecked, IsFirstFact, rank}
 use Rattle.abc_grammar.specs.declared.lexemes.Lexeme.{Lexeme}
 use Rattle.abc_grammar.specs.declared.lexemes.Lexeme.TheVariants as l
-use Rattle.abc_grammar.specs.declared.lexemes.Mark.TheVariants as m
-use Rattle.abc_grammar.specs.declared.lexemes.Keyword.TheVariants as k
-use Rattle.abc_grammar.specs.Lexemes.{keyword_at, mark_at}
+use Rattle.abc_text.specs.declared.words.Mark.TheVariants as m
+use Rattle.abc_text.specs.declared.words.Keyword.TheVariants as k
+use Rattle.abc_text.specs.Words.{keyword_at, mark_at}
 use Rattle.abc_grammar.specs.Listed as listed
 use Rattle.abc_grammar.specs.Processes as q
 use Rattle.abc_grammar.specs.Programs as g
@@ -30,7 +29,7 @@ use Rattle.abc_grammar.proofs.Worked.{header_of_three}
 
 -- ---- one component
 idle_reads : Reads idle_text idle_tokens None
-unfolding skip is_keyword is_literal_word number_token text_token next stands_after
+unfolding skip number_token text_token next stands_after keyword_at mark_at
 idle_reads = (
   record { token = refl; place = refl },
   (
@@ -63,7 +62,7 @@ idle_lexemes =
     ∷ l.Mark m.Semicolon ∷ l.Keyword k.Run ∷ l.Number 0 ∷ l.Mark m.Semicolon ∷ l.Mark m.CloseCurly ∷ []
 
 idle_is : IsTextOf idle_text idle_tokens idle
-unfolding keyword_at mark_at is_keyword
+unfolding keyword_at mark_at
 idle_is = record {
   lexemes = idle_lexemes;
   scanned = record { read = idle_reads; meant = refl };
@@ -105,7 +104,7 @@ nothing : Program
 nothing = record { names = []; components = []; definitions = [] }
 
 nothing_is : IsTextOf (codes "abc 1;") header_tokens nothing
-unfolding header_tokens nothing keyword_at mark_at is_keyword skip is_literal_word number_token text_token next stands_after
+unfolding header_tokens nothing keyword_at mark_at skip number_token text_token next stands_after
 nothing_is = record {
   lexemes = l.Keyword k.Abc ∷ l.Number 1 ∷ l.Mark m.Semicolon ∷ [];
   scanned = record { read = (record { token = refl; place = refl }, (record { token = refl; place = refl }, (record { token = refl; place = refl }, refl))); meant = refl };
@@ -142,7 +141,7 @@ nothing_first = record { holds = refl; first_cause = earlier_causes; first_site 
 
 -- ---- a name twice
 double_definition_reads : Reads double_definition double_definition_tokens None
-unfolding skip is_keyword is_literal_word number_token text_token next stands_after
+unfolding skip number_token text_token next stands_after keyword_at mark_at
 double_definition_reads = (
   record { token = refl; place = refl },
   (
@@ -191,7 +190,7 @@ abbrev double_definition_lexemes : List Lexeme
 double_definition_lexemes = l.Keyword k.Abc ∷ l.Number 1 ∷ l.Mark m.Semicolon ∷ nil_definition ++ nil_definition
 
 double_definition_is : IsTextOf double_definition double_definition_tokens twice_defined
-unfolding keyword_at mark_at is_keyword
+unfolding keyword_at mark_at
 double_definition_is = record {
   lexemes = double_definition_lexemes;
   scanned = record { read = double_definition_reads; meant = refl };
@@ -224,7 +223,7 @@ twice_defined_first = record {
 }
 
 double_component_reads : Reads double_component double_component_tokens None
-unfolding skip is_keyword is_literal_word number_token text_token next stands_after
+unfolding skip number_token text_token next stands_after keyword_at mark_at
 double_component_reads = (
   record { token = refl; place = refl },
   (
@@ -296,7 +295,7 @@ abbrev double_component_lexemes : List Lexeme
 double_component_lexemes = l.Keyword k.Abc ∷ l.Number 1 ∷ l.Mark m.Semicolon ∷ idle_comp ++ idle_comp
 
 double_component_is : IsTextOf double_component double_component_tokens twice_composed
-unfolding keyword_at mark_at is_keyword
+unfolding keyword_at mark_at
 double_component_is = record {
   lexemes = double_component_lexemes;
   scanned = record { read = double_component_reads; meant = refl };
@@ -316,11 +315,11 @@ twice_composed_first = record {
 
 -- ---- another header
 header_reads : Reads (codes "abc 3;") header_tokens None
-unfolding header_tokens skip is_keyword is_literal_word number_token text_token next stands_after
+unfolding header_tokens skip number_token text_token next stands_after keyword_at mark_at
 header_reads = (record { token = refl; place = refl }, (record { token = refl; place = refl }, (record { token = refl; place = refl }, refl)))
 
 pub worked_texts : WorkedTexts
-unfolding header_tokens keyword_at mark_at is_keyword double_definition_is double_component_is
+unfolding header_tokens keyword_at mark_at double_definition_is double_component_is
 worked_texts = record {
   one_component = record { text = idle_is; checked = idle_checked };
   header_of_three = record {

@@ -12,7 +12,7 @@ use Rattle.abc_checks.specs.declared.causes.Site.TheVariants.{Definition, Compon
 use Rattle.abc_checks.specs.Facts.{IsChecked, IsFirstFact}
 use Rattle.abc_grammar.specs.declared.lexemes.Lexeme.{Lexeme}
 use Rattle.abc_grammar.specs.declared.lexemes.Lexeme.TheVariants as l
-use Rattle.abc_grammar.specs.declared.lexemes.Keyword.TheVariants as k
+use Rattle.abc_text.specs.declared.words.Keyword.TheVariants as k
 use Rattle.abc_grammar.specs.Plain.{plain_program}
 use Rattle.abc_grammar.specs.Programs.{IsProgram}
 use Rattle.abc_grammar.specs.Limits.{IsTooLarge}

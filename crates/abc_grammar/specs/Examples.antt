@@ -1,6 +1,5 @@
 -- Worked examples of the grammar, of fronts and of refusals.
 use Rattle.std.specs.Prelude.{◌≡◌, ℕ, zero, suc, length, List, [], ◌∷◌, ◌++◌, Some, None, pos, negsuc, codes, replicate}
-use Rattle.abc_value.specs.declared.scalar.Scalar.{Scalar}
 use Rattle.abc_value.specs.declared.scalar.Scalar.TheVariants as s
 use Rattle.abc_value.specs.declared.value.Value.TheVariants as v
 use Rattle.abc_pred.specs.declared.names.Name.{Name}
@@ -14,9 +13,8 @@ use Rattle.abc_text.specs.declared.lexical.Token.{Token}
 use Rattle.abc_text.specs.Meanings.{names_of}
 use Rattle.abc_grammar.specs.declared.lexemes.Lexeme.{Lexeme}
 use Rattle.abc_grammar.specs.declared.lexemes.Lexeme.TheVariants as l
-use Rattle.abc_grammar.specs.declared.lexemes.Mark.{Mark}
-use Rattle.abc_grammar.specs.declared.lexemes.Mark.TheVariants as m
-use Rattle.abc_grammar.specs.declared.lexemes.Keyword.TheVariants as k
+use Rattle.abc_text.specs.declared.words.Mark.TheVariants as m
+use Rattle.abc_text.specs.declared.words.Keyword.TheVariants as k
 use Rattle.abc_grammar.specs.Lexemes.{lexemes_of}
 use Rattle.abc_grammar.specs.Operands.{IsOperand}
 use Rattle.abc_grammar.specs.Preds.{IsPred}

@@ -2,8 +2,8 @@
 use Rattle.std.specs.Prelude.{ℕ, List, [], ◌∷◌, ◌++◌, replicate}
 use Rattle.abc_grammar.specs.declared.lexemes.Lexeme.{Lexeme}
 use Rattle.abc_grammar.specs.declared.lexemes.Lexeme.TheVariants as l
-use Rattle.abc_grammar.specs.declared.lexemes.Mark.TheVariants as m
-use Rattle.abc_grammar.specs.declared.lexemes.Keyword.TheVariants as k
+use Rattle.abc_text.specs.declared.words.Mark.TheVariants as m
+use Rattle.abc_text.specs.declared.words.Keyword.TheVariants as k
 use Rattle.abc_grammar.specs.Limits.{IsTooDeep, IsTooLarge, BeginsExtraToken, BeginsExtraExpr, BeginsExtraVariable, BeginsExtraScalar}
 use Rattle.abc_grammar.specs.Refusals.{IsSomeProgram}
 use Rattle.abc_grammar.specs.Examples.{run_a, ones, variables}

@@ -8,8 +8,8 @@ use Rattle.abc_value.specs.Values.{fits_64}
 use Rattle.abc_value.specs.Sets.{set_of}
 use Rattle.abc_grammar.specs.declared.lexemes.Lexeme.{Lexeme}
 use Rattle.abc_grammar.specs.declared.lexemes.Lexeme.TheVariants as l
-use Rattle.abc_grammar.specs.declared.lexemes.Mark.TheVariants as m
-use Rattle.abc_grammar.specs.declared.lexemes.Keyword.TheVariants as k
+use Rattle.abc_text.specs.declared.words.Mark.TheVariants as m
+use Rattle.abc_text.specs.declared.words.Keyword.TheVariants as k
 use Rattle.abc_grammar.specs.Listed.{MayBeListed}
 
 -- scalar = [ "-" ] NUMBER | TEXT | "true" | "false"

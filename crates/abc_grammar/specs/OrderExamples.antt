@@ -11,8 +11,8 @@ use Rattle.abc_text.specs.Meanings.{names_of}
 use Rattle.abc_checks.specs.declared.causes.Site.TheVariants.{Definition, Component, Whole}
 use Rattle.abc_grammar.specs.declared.lexemes.Lexeme.{Lexeme}
 use Rattle.abc_grammar.specs.declared.lexemes.Lexeme.TheVariants as l
-use Rattle.abc_grammar.specs.declared.lexemes.Mark.TheVariants as m
-use Rattle.abc_grammar.specs.declared.lexemes.Keyword.TheVariants as k
+use Rattle.abc_text.specs.declared.words.Mark.TheVariants as m
+use Rattle.abc_text.specs.declared.words.Keyword.TheVariants as k
 use Rattle.abc_grammar.specs.Lexemes.{lexemes_of}
 use Rattle.abc_grammar.specs.Plain.{PlainComponent}
 use Rattle.abc_grammar.specs.Programs.{IsProgram}

@@ -2,8 +2,8 @@
 use Rattle.std.specs.Prelude.{ℕ, ◌+◌, Bool, true, false, not, List, [], ◌∷◌, if◌then◌else◌}
 use Rattle.abc_grammar.specs.declared.lexemes.Lexeme.{Lexeme}
 use Rattle.abc_grammar.specs.declared.lexemes.Lexeme.TheVariants as l
-use Rattle.abc_grammar.specs.declared.lexemes.Mark.TheVariants as m
-use Rattle.abc_grammar.specs.declared.lexemes.Keyword.TheVariants as k
+use Rattle.abc_text.specs.declared.words.Mark.TheVariants as m
+use Rattle.abc_text.specs.declared.words.Keyword.TheVariants as k
 
 -- a token that may end an operand, behind which a `-` is no sign
 abbrev pub ends_operand : Lexeme → Bool

@@ -31,8 +31,7 @@ pub fn causes_in_order()
     ensures { CausesInOrder }
 {}
 
-/// What tokens stand for agrees with what tokens are: the keywords are the same, each symbol of a text
-/// is a mark, and a token names what its lexeme names.
+/// A token names what its lexeme names.
 pub fn lexemes_agree()
     ensures { LexemesAgree }
 {}

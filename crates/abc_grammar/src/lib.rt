@@ -10,6 +10,7 @@ mod laws;
 mod lexemes;
 mod limits;
 
+pub use abc_text::{Keyword, Mark};
 pub use examples::{
     what_is_no_term, worked_lexemes, worked_limits, worked_orders, worked_refusals, worked_terms,
     worked_texts,
@@ -18,5 +19,5 @@ pub use laws::{
     causes_in_order, fronts_are_one, lexemes_agree, one_term, refusals_are_one,
     signs_are_of_literals, signs_are_one, sizes_count_literals, terms_balance, texts_are_one,
 };
-pub use lexemes::{Keyword, Lexeme, Mark};
+pub use lexemes::Lexeme;
 pub use limits::{MOST_OPEN, MOST_PARTS, MOST_TOKENS, MOST_WRITTEN, text_limits};

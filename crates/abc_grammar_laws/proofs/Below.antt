@@ -12,8 +12,8 @@ use Rattle.abc_text.proofs.Growing.{named_have_numbers, number_below}
 use Rattle.abc_term.specs.Processes.{Process, Update}
 use Rattle.abc_grammar.specs.declared.lexemes.Lexeme.{Lexeme}
 use Rattle.abc_grammar.specs.declared.lexemes.Lexeme.TheVariants as l
-use Rattle.abc_grammar.specs.declared.lexemes.Mark.TheVariants as m
-use Rattle.abc_grammar.specs.declared.lexemes.Keyword.TheVariants as k
+use Rattle.abc_text.specs.declared.words.Mark.TheVariants as m
+use Rattle.abc_text.specs.declared.words.Keyword.TheVariants as k
 use Rattle.abc_grammar.specs.Lexemes.{name_in, lexemes_of, name_of}
 use Rattle.abc_grammar.specs.Listed.{AreListed, MayBeListed, AreRepeated, IsName, IsVariable}
 use Rattle.abc_grammar.specs.Listed as listed
@@ -200,7 +200,7 @@ tokens_numbered : (words : List (List ℕ)) (bytes : List ℕ) (ts : List Token)
     Tokens (length words) (lexemes_of words bytes ts)
 tokens_numbered words bytes [] h = tt
 tokens_numbered words bytes (t ∷ ts) h = (
-  subst (NameBelow (length words)) (sym (lexemes_agree.names words bytes t)) (name_numbered words (named bytes t) (h 0 t (omega arith))),
+  subst (NameBelow (length words)) (sym (lexemes_agree words bytes t)) (name_numbered words (named bytes t) (h 0 t (omega arith))),
   tokens_numbered words bytes ts (λ i d lt. h (suc i) d (omega (arith, lt))),
 )
 

@@ -4,7 +4,7 @@ use Rattle.std.proofs.lemmas.Bool.{cases_lt}
 use Rattle.abc_value.specs.declared.scalar.Scalar.{Scalar}
 use Rattle.abc_grammar.specs.declared.lexemes.Lexeme.{Lexeme}
 use Rattle.abc_grammar.specs.declared.lexemes.Lexeme.TheVariants as l
-use Rattle.abc_grammar.specs.declared.lexemes.Mark.TheVariants as m
+use Rattle.abc_text.specs.declared.words.Mark.TheVariants as m
 use Rattle.abc_grammar.specs.Listed.{AreListed}
 use Rattle.abc_grammar.specs.Listed as listed
 use Rattle.abc_grammar.specs.Literals.{IsScalar}

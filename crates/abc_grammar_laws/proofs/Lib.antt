@@ -11,3 +11,4 @@ pub mod NoneTooMany
 pub mod Crowded
 pub mod NoItems
 pub mod NamePlaces
+pub mod Beginnings

@@ -2,7 +2,7 @@
 use Rattle.std.proofs.Common.{◌≡◌, List, [], ◌∷◌, ◌++◌, refl, sym, ◌∙◌, take}
 use Rattle.abc_grammar.specs.declared.lexemes.Lexeme.{Lexeme}
 use Rattle.abc_grammar.specs.declared.lexemes.Lexeme.TheVariants as l
-use Rattle.abc_grammar.specs.declared.lexemes.Mark.TheVariants as m
+use Rattle.abc_text.specs.declared.words.Mark.TheVariants as m
 use Rattle.abc_grammar.specs.Laws.{Balanced}
 use Rattle.abc_grammar.proofs.Balance.{listed_balance, scalar_balance, expr_balance, variable_balance}
 use Rattle.abc_grammar_laws.specs.Meeting.{LimitsMeet}

@@ -10,8 +10,8 @@ use Rattle.abc_text.specs.declared.lexical.Token.{Token}
 use Rattle.abc_term.specs.Processes.{Process}
 use Rattle.abc_grammar.specs.declared.lexemes.Lexeme.{Lexeme}
 use Rattle.abc_grammar.specs.declared.lexemes.Lexeme.TheVariants as l
-use Rattle.abc_grammar.specs.declared.lexemes.Mark.TheVariants as m
-use Rattle.abc_grammar.specs.declared.lexemes.Keyword.TheVariants as k
+use Rattle.abc_text.specs.declared.words.Mark.TheVariants as m
+use Rattle.abc_text.specs.declared.words.Keyword.TheVariants as k
 use Rattle.abc_grammar.specs.Listed.{MayBeListed, AreRepeated, IsName}
 use Rattle.abc_grammar.specs.Listed as gl
 use Rattle.abc_grammar.specs.Limits.{starts_item}

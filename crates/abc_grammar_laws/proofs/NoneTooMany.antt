@@ -3,7 +3,7 @@ use Rattle.std.proofs.Common.{◌≡◌, inl, inr, ℕ, suc, ◌-◌, zero, ◌<
 use Rattle.std.proofs.lemmas.List.{length-take, set_split, set-get_or, get_or_default}
 use Rattle.abc_grammar.specs.declared.lexemes.Lexeme.{Lexeme}
 use Rattle.abc_grammar.specs.declared.lexemes.Lexeme.TheVariants as l
-use Rattle.abc_grammar.specs.declared.lexemes.Mark.TheVariants as m
+use Rattle.abc_text.specs.declared.words.Mark.TheVariants as m
 use Rattle.abc_grammar.specs.declared.limits.TheConstants.{MOST_PARTS}
 use Rattle.abc_grammar.specs.Listed.{AreListed, IsVariable}
 use Rattle.abc_grammar.specs.Exprs.{IsExpr}
@@ -15,7 +15,7 @@ use Rattle.abc_grammar_laws.proofs.Walks.{walk_append, roomy_none, one_step, End
 
 -- ---- walks of one text
 -- what a limited walk passes, the other passes too
-unlimited : (s : Option Standing) (ts : List Lexeme) (r : Standing) → walk true s ts ≡ Some r → walk false s ts ≡ Some r
+pub unlimited : (s : Option Standing) (ts : List Lexeme) (r : Standing) → walk true s ts ≡ Some r → walk false s ts ≡ Some r
 unlimited None ts r h = h
 unlimited (Some s) [] r h = h
 unlimited (Some (w, (c, bs))) (t ∷ ts) r h = by (is_crowded bs) refl (unlimited (moved t w c bs) ts r)
@@ -26,7 +26,7 @@ unlimited (Some (w, (c, bs))) (t ∷ ts) r h = by (is_crowded bs) refl (unlimite
     by false e next = next (sym (ap (λ (b : Bool). walk true (if b then None else moved t w c bs) ts) e) ∙ h)
 
 -- where the whole is passed, so is its front
-passed_front : (limited : Bool) (s : Option Standing) (ts us : List Lexeme) (r : Standing) → walk limited s (ts ++ us) ≡ Some r →
+pub passed_front : (limited : Bool) (s : Option Standing) (ts us : List Lexeme) (r : Standing) → walk limited s (ts ++ us) ≡ Some r →
     (m : Standing) × (walk limited s ts ≡ Some m) × (walk limited (Some m) us ≡ Some r)
 passed_front limited None ts us r h = absurd (let k : None ≡ Some r = h in cc)
 passed_front limited (Some s) [] us r h = (s, refl, h)

@@ -10,7 +10,7 @@ use Rattle.abc_term.specs.Processes.{Process, Update}
 use Rattle.abc_term.specs.Processes as P
 use Rattle.abc_grammar.specs.declared.lexemes.Lexeme.{Lexeme}
 use Rattle.abc_grammar.specs.declared.lexemes.Lexeme.TheVariants as l
-use Rattle.abc_grammar.specs.declared.lexemes.Mark.TheVariants as m
+use Rattle.abc_text.specs.declared.words.Mark.TheVariants as m
 use Rattle.abc_grammar.specs.declared.limits.TheConstants.{MOST_WRITTEN}
 use Rattle.abc_grammar.specs.Listed.{AreListed, MayBeListed, IsVariable}
 use Rattle.abc_grammar.specs.Literals.{IsScalar}

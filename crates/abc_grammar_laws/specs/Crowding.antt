@@ -2,8 +2,8 @@
 use Rattle.std.specs.Prelude.{◌≡◌, ◌⊎◌, ◌<◌, length, take, ℕ, suc, Bool, true, false, ◌&&◌, List, [], ◌∷◌, Option, Some, None, nat_le, if◌then◌else◌}
 use Rattle.abc_grammar.specs.declared.lexemes.Lexeme.{Lexeme}
 use Rattle.abc_grammar.specs.declared.lexemes.Lexeme.TheVariants as l
-use Rattle.abc_grammar.specs.declared.lexemes.Mark.TheVariants as m
-use Rattle.abc_grammar.specs.declared.lexemes.Keyword.TheVariants as k
+use Rattle.abc_text.specs.declared.words.Mark.TheVariants as m
+use Rattle.abc_text.specs.declared.words.Keyword.TheVariants as k
 use Rattle.abc_grammar.specs.declared.limits.TheConstants.{MOST_PARTS}
 use Rattle.abc_grammar.specs.Limits.{Begins, BeginsExtraExpr, BeginsExtraVariable}
 use Rattle.abc_grammar.specs.Refusals.{IsSomeProgram}
@@ -88,3 +88,7 @@ BeginsExtraPart ts k = BeginsExtraExpr IsSomeProgram ts k ⊎ BeginsExtraVariabl
 pub record ExtraPartsAreCrowded : Type 0 where
   pub none : (ts : List Lexeme) (n : ℕ) → IsUncrowded ts n → (k : ℕ) → k < n → ¬ BeginsExtraPart ts k
   pub first : (ts : List Lexeme) (k : ℕ) → IsFirstCrowded ts k → Begins IsSomeProgram (take k ts) → BeginsExtraPart ts k
+
+-- Tokens that begin a text are walked to their end, crowded brackets aside: no `@` and no `.` stands behind a `set(..)`.
+abbrev pub BeginningsAreWalked : Type 0
+BeginningsAreWalked = (ts : List Lexeme) → Begins IsSomeProgram ts → (s : Standing) × (walk false (Some at_start) ts ≡ Some s)

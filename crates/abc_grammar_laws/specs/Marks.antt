@@ -6,7 +6,7 @@ use Rattle.abc_pred.specs.Terms.{Expr, Pred}
 use Rattle.abc_term.specs.Processes.{Process, Update}
 use Rattle.abc_grammar.specs.declared.lexemes.Lexeme.{Lexeme}
 use Rattle.abc_grammar.specs.declared.lexemes.Lexeme.TheVariants as l
-use Rattle.abc_grammar.specs.declared.lexemes.Mark.TheVariants as m
+use Rattle.abc_text.specs.declared.words.Mark.TheVariants as m
 use Rattle.abc_grammar.specs.Listed.{AreListed, MayBeListed, IsVariable}
 use Rattle.abc_grammar.specs.Literals.{IsScalar}
 use Rattle.abc_grammar.specs.Exprs.{IsExpr}

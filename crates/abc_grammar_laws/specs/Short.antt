@@ -6,7 +6,7 @@ use Rattle.abc_term.specs.Processes.{Process, Nil, Output, Input, When, Choice, 
 use Rattle.abc_term.specs.declared.terms.Program.{Program}
 use Rattle.abc_grammar.specs.declared.lexemes.Lexeme.{Lexeme}
 use Rattle.abc_grammar.specs.declared.lexemes.Lexeme.TheVariants as l
-use Rattle.abc_grammar.specs.declared.lexemes.Mark.TheVariants as m
+use Rattle.abc_text.specs.declared.words.Mark.TheVariants as m
 use Rattle.abc_grammar.specs.declared.limits.TheConstants.{MOST_PARTS, MOST_WRITTEN}
 use Rattle.abc_grammar.specs.Listed.{AreListed}
 use Rattle.abc_grammar.specs.Literals.{IsScalar}

@@ -1,6 +1,6 @@
 //! The laws, each the contract of a function that does nothing.
 ghost use Rattle.abc_grammar_laws.specs.Short.{TuplesAreShort, SetsAreShort, NoneTooMany};
-ghost use Rattle.abc_grammar_laws.specs.Crowding.{ExtraPartsAreCrowded};
+ghost use Rattle.abc_grammar_laws.specs.Crowding.{ExtraPartsAreCrowded, BeginningsAreWalked};
 ghost use Rattle.abc_grammar_laws.specs.Numbered.{NamesAreNumbered};
 ghost use Rattle.abc_grammar_laws.specs.Marks.{MarksStand};
 ghost use Rattle.abc_grammar_laws.specs.Meeting.{LimitsMeet};
@@ -46,4 +46,9 @@ pub fn extra_parts_are_crowded()
 /// name of the i-th, right behind the i-th `def` or `comp`, and these words stand nowhere else.
 pub fn places_are_named()
     ensures { PlacesAreNamed }
+{}
+
+/// The walk that finds crowded brackets goes over all tokens that begin a text, crowded brackets aside.
+pub fn beginnings_are_walked()
+    ensures { BeginningsAreWalked }
 {}

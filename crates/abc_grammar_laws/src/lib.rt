@@ -5,6 +5,6 @@
 mod laws;
 
 pub use laws::{
-    extra_parts_are_crowded, limits_hold, limits_meet, marks_stand, names_are_numbered,
-    places_are_named, short_tuples_pass_no_limit,
+    beginnings_are_walked, extra_parts_are_crowded, limits_hold, limits_meet, marks_stand,
+    names_are_numbered, places_are_named, short_tuples_pass_no_limit,
 };

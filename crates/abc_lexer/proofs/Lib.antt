@@ -1,3 +1,4 @@
+pub mod TextSteps
 pub mod TextLens
 pub mod Scans
 pub mod TextBytes

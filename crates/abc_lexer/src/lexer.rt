@@ -2,115 +2,62 @@
 ghost use Rattle.std.specs.Prelude.{◌≡◌, ◌≤◌, ◌<◌, ◌^◌, ◌+◌, length, IfOk, IfErr, All, Some, None};
 ghost use Rattle.abc_text.specs.Tokens as spec;
 ghost use Rattle.abc_text.specs.Meanings.{StandsIn};
+ghost use Rattle.abc_lexer.specs.Items.{IsFound};
 ghost use Rattle.abc_lexer.specs.Scanning as scanning;
 
 use crate::refusal::TextRefusal;
-use crate::run::{
-    capped_decimal, digits_len, is_digit, is_letter, is_symbol, skip, text_lens, word_len,
-};
+use crate::run::skip;
 use crate::signs::stands_after;
-use abc_cause::Cause;
-use abc_text::{Before, Fault, MOST_NAME, MOST_NUMBER, Next, Token, TokenKind};
-use abc_value::{LONGEST_TEXT, List, NoMemory};
+use crate::step::{Item, Step, next_step};
+use abc_text::{Before, Fault, Token};
+use abc_value::{List, NoMemory};
 use std::alloc::Global;
 
-fn word_token(bytes: &[u8]) -> Next
-    ensures { result ≡ spec.word_token bytes.now }
-{
-    let len = word_len(bytes);
-    if len <= MOST_NAME {
-        Next::Good(TokenKind::Word, len)
-    } else {
-        Next::Bad(Cause::LongName)
-    }
+/// The next token of a text, with what it is.
+#[derive(Clone, Copy)]
+pub struct Read<'t> {
+    pub token: Token,
+    pub item: Item<'t>,
+    /// What stands before the token behind it.
+    pub after: Before,
+    /// What is left of the text behind it.
+    pub left: &'t [u8],
 }
 
-fn variable_token(bytes: &[u8]) -> Next
-    ensures { result ≡ spec.variable_token bytes.now }
+/// What comes next in a text.
+#[derive(Clone, Copy)]
+pub enum Found<'t> {
+    End,
+    Bad(Fault),
+    Good(Read<'t>),
+}
+
+/// What comes next in these bytes, which reach to the end of a text of `size` bytes, where `before`
+/// stands before them.
+pub fn read_token(size: usize, before: Before, bytes: &[u8]) -> Found<'_>
+    requires within { length bytes.now ≤ size }
+    requires small { size < 2 ^ 32 }
+    ensures { IsFound size before bytes.now result }
 {
-    match bytes.first() {
-        Some(first) if is_letter(*first) => {
-            let len = word_len(bytes);
-            if len <= MOST_NAME {
-                Next::Good(TokenKind::Variable, len + 1)
-            } else {
-                Next::Bad(Cause::LongName)
-            }
+    let front = skip(bytes);
+    let place = (size - front.len()) as u32;
+    match next_step(before, front) {
+        Step::End => Found::End,
+        Step::Bad(cause) => Found::Bad(Fault { place, cause }),
+        Step::Good(item, len) => {
+            let (_, left) = front.split_at(len);
+            let kind = item.kind();
+            Found::Good(Read {
+                token: Token {
+                    kind,
+                    place,
+                    len: len as u32,
+                },
+                item,
+                after: stands_after(before, &item),
+                left,
+            })
         }
-        _ => Next::Bad(Cause::BadByte),
-    }
-}
-
-/// The greatest number that may stand here.
-fn greatest(before: Before) -> u64
-    ensures { result ≡ spec.greatest before }
-{
-    match before {
-        Before::Sign => MOST_NUMBER,
-        Before::Open => MOST_NUMBER - 1,
-        Before::Operand => MOST_NUMBER - 1,
-    }
-}
-
-#[tactic(auto, unfolding(abc_text::specs::Tokens::number_token))]
-fn number_token(before: Before, bytes: &[u8]) -> Next
-    ensures { result ≡ spec.number_token before bytes.now }
-{
-    let len = digits_len(bytes);
-    if capped_decimal(&bytes[..len]) <= greatest(before) {
-        Next::Good(TokenKind::Number, len)
-    } else {
-        Next::Bad(Cause::WideNumber)
-    }
-}
-
-#[tactic(auto, unfolding(abc_text::specs::Tokens::text_token))]
-fn text_token(bytes: &[u8]) -> Next
-    ensures { result ≡ spec.text_token bytes.now }
-{
-    match text_lens(bytes) {
-        None => Next::Bad(Cause::BadText),
-        Some((len, size)) => {
-            if size <= LONGEST_TEXT {
-                Next::Good(TokenKind::Text, len + 1)
-            } else {
-                Next::Bad(Cause::LongText)
-            }
-        }
-    }
-}
-
-fn colon_token(bytes: &[u8]) -> Next
-    ensures { result ≡ spec.colon_token bytes.now }
-{
-    match bytes.first() {
-        Some(b'=') => Next::Good(TokenKind::Symbol, 2),
-        _ => Next::Bad(Cause::BadByte),
-    }
-}
-
-/// What stands at the front of the bytes.
-#[tactic(auto, unfolding(abc_text::specs::Tokens::next))]
-fn next_token(before: Before, bytes: &[u8]) -> Next
-    ensures { result ≡ spec.next before bytes.now }
-{
-    let Some((first, more)) = bytes.split_first() else {
-        return Next::End;
-    };
-    if is_letter(*first) {
-        word_token(bytes)
-    } else if *first == b'$' {
-        variable_token(more)
-    } else if is_digit(*first) {
-        number_token(before, bytes)
-    } else if *first == b'"' {
-        text_token(more)
-    } else if is_symbol(*first) {
-        Next::Good(TokenKind::Symbol, 1)
-    } else if *first == b':' {
-        colon_token(more)
-    } else {
-        Next::Bad(Cause::BadByte)
     }
 }
 
@@ -131,30 +78,23 @@ pub fn scan(alloc: Global, bytes: &[u8]) -> Result<Scanned, NoMemory>
     let mut before = Before::Open;
     let mut rest = bytes;
     'tokens: loop {
-        let front = skip(rest);
-        let place = (bytes.len() - front.len()) as u32;
-        match next_token(before, front) {
-            Next::End => {
+        match read_token(bytes.len(), before, rest) {
+            Found::End => {
                 return Ok(Scanned {
                     tokens,
                     fault: None,
                 });
             }
-            Next::Bad(cause) => {
+            Found::Bad(fault) => {
                 return Ok(Scanned {
                     tokens,
-                    fault: Some(Fault { place, cause }),
+                    fault: Some(fault),
                 });
             }
-            Next::Good(kind, len) => {
-                tokens.push(Token {
-                    kind,
-                    place,
-                    len: len as u32,
-                })?;
-                let (spelling, left) = front.split_at(len);
-                before = stands_after(before, kind, spelling);
-                rest = left;
+            Found::Good(read) => {
+                tokens.push(read.token)?;
+                before = read.after;
+                rest = read.left;
             }
         }
     }

@@ -7,10 +7,12 @@ mod naming;
 mod refusal;
 mod run;
 mod signs;
+mod step;
 
 pub use abc_cause::Cause;
 pub use abc_text::{Fault, Token, TokenKind};
-pub use lexer::{Scanned, scan, tokens};
-pub use meaning::{named, number, spelling, text};
+pub use lexer::{Found, Read, Scanned, read_token, scan, tokens};
+pub use meaning::{named, number, spelling, text, unescaped};
 pub use naming::{Names, names_of};
 pub use refusal::TextRefusal;
+pub use step::Item;

@@ -1,14 +1,13 @@
 //! What a token stands for.
 ghost use Rattle.std.specs.Prelude.{◌≡◌, ◌≤◌, ◌<◌, ◌+◌, ◌^◌, ◌++◌, false, length, drop, All};
 ghost use Rattle.std.specs.Option.{option_copied};
-ghost use Rattle.abc_value.specs.Text.{IsPrintable};
 ghost use Rattle.abc_text.specs.declared.lexical.TokenKind.TheVariants.{Number as NumberKind, Text as TextKind};
 ghost use Rattle.abc_text.specs.Tokens.{text_value};
+ghost use Rattle.abc_text.specs.Spelling.{IsTextValue};
 ghost use Rattle.abc_text.specs.Meanings as spec;
 
 use crate::run::capped_decimal;
-use crate::signs::is_keyword;
-use abc_text::{Token, TokenKind};
+use abc_text::{Token, TokenKind, keyword_at};
 use abc_value::{ShortText, behind_first};
 
 /// The bytes of a token of the text.
@@ -33,9 +32,8 @@ pub fn number(bytes: &[u8], token: Token) -> u64
 }
 
 /// The text that stands behind an opening quote, without the backslashes before `"` and `\`.
-fn unescaped(bytes: &[u8]) -> ShortText
-    requires short { length (text_value false bytes.now) ≤ 64 }
-    requires printable { All IsPrintable (text_value false bytes.now) }
+pub fn unescaped(bytes: &[u8]) -> ShortText
+    requires { IsTextValue (text_value false bytes.now) }
     ensures { result ≡ text_value false bytes.now }
 {
     let mut held = ShortText::empty();
@@ -74,7 +72,10 @@ pub fn named(bytes: &[u8], token: Token) -> Option<&[u8]>
 {
     let word = spelling(bytes, token);
     match token.kind {
-        TokenKind::Word => { if is_keyword(word) { None } else { Some(word) } }
+        TokenKind::Word => match keyword_at(word) {
+            Some(_) => None,
+            None => Some(word),
+        },
         TokenKind::Variable => Some(behind_first(word)),
         TokenKind::Number => None,
         TokenKind::Text => None,

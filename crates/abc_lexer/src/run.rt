@@ -27,18 +27,6 @@ fn is_word_byte(b: u8) -> bool
     is_letter(b) || is_digit(b) || b == b'_'
 }
 
-/// Whether the byte alone is a symbol.
-pub fn is_symbol(b: u8) -> bool
-    ensures { result ≡ spec.is_symbol b }
-{
-    (40 <= b && b <= 46)
-        || (59 <= b && b <= 61)
-        || (63 <= b && b <= 64)
-        || b == b'['
-        || b == b']'
-        || (123 <= b && b <= 125)
-}
-
 fn is_quote_mark(b: u8) -> bool
     ensures { result ≡ spec.is_quote_mark b }
 {

@@ -1,75 +1,81 @@
-//! Which `-` is a sign.
-ghost use Rattle.std.specs.Prelude.{◌≡◌};
+//! What stands before the next token.
+ghost use Rattle.std.specs.Prelude.{◌≡◌, List, ℕ};
 ghost use Rattle.abc_text.specs.Tokens as spec;
+ghost use Rattle.abc_text.specs.Words as words;
+ghost use Rattle.abc_lexer.specs.Items.{kind_of, IsItem};
 
-use abc_text::{Before, TokenKind};
+use crate::step::Item;
+use abc_text::{Before, Keyword, Mark};
 
-const KEYWORDS: [&[u8]; 21] = [
-    b"abc", b"and", b"comp", b"def", b"false", b"ff", b"free", b"in", b"none", b"not", b"or",
-    b"run", b"set", b"show", b"size", b"this", b"true", b"tt", b"union", b"when", b"without",
-];
-
-const LITERAL_WORDS: [&[u8]; 3] = [b"false", b"none", b"true"];
-
-/// Whether the word is a keyword, and so no name.
-#[tactic(auto, unfolding(abc_text::specs::Tokens::is_keyword))]
-pub fn is_keyword(word: &[u8]) -> bool
-    ensures { result ≡ spec.is_keyword word.now }
+/// Whether the keyword is a literal.
+fn is_literal(keyword: Keyword) -> bool
+    ensures { result ≡ words.is_literal keyword }
 {
-    KEYWORDS.contains(&word)
+    match keyword {
+        Keyword::False | Keyword::None | Keyword::True => true,
+        _ => false,
+    }
 }
 
-/// Whether the word is one of the keywords that are literals.
-#[tactic(auto, unfolding(abc_text::specs::Tokens::is_literal_word))]
-fn is_literal_word(word: &[u8]) -> bool
-    ensures { result ≡ spec.is_literal_word word.now }
+fn closes_operand(mark: Mark) -> bool
+    ensures { result ≡ words.closes_operand mark }
 {
-    LITERAL_WORDS.contains(&word)
+    match mark {
+        Mark::CloseRound | Mark::CloseCurly => true,
+        _ => false,
+    }
+}
+
+fn is_dash(mark: Mark) -> bool
+    ensures { result ≡ words.is_dash mark }
+{
+    match mark {
+        Mark::Minus => true,
+        _ => false,
+    }
 }
 
 /// Whether an operand may end with the token.
-fn ends_operand(kind: TokenKind, spelling: &[u8]) -> bool
-    ensures { result ≡ spec.ends_operand kind spelling.now }
+fn ends_operand(item: &Item) -> bool
+    ensures { (word : List ℕ) → IsItem word item.now → result ≡ spec.ends_operand (kind_of item.now) word }
 {
-    match kind {
-        TokenKind::Word => !is_keyword(spelling) || is_literal_word(spelling),
-        TokenKind::Variable => true,
-        TokenKind::Number => true,
-        TokenKind::Text => true,
-        TokenKind::Symbol => spelling == b")".as_slice() || spelling == b"}".as_slice(),
+    match item {
+        Item::Keyword(keyword) => is_literal(*keyword),
+        Item::Name(_) => true,
+        Item::Variable(_) => true,
+        Item::Number(_) => true,
+        Item::Text(_) => true,
+        Item::Mark(mark) => closes_operand(*mark),
     }
 }
 
-fn is_minus(kind: TokenKind, spelling: &[u8]) -> bool
-    ensures { result ≡ spec.is_minus kind spelling.now }
+fn is_minus(item: &Item) -> bool
+    ensures { (word : List ℕ) → IsItem word item.now → result ≡ spec.is_minus (kind_of item.now) word }
 {
-    match kind {
-        TokenKind::Symbol => spelling == b"-".as_slice(),
-        TokenKind::Word => false,
-        TokenKind::Variable => false,
-        TokenKind::Number => false,
-        TokenKind::Text => false,
+    match item {
+        Item::Mark(mark) => is_dash(*mark),
+        _ => false,
     }
 }
 
-fn is_sign(before: Before, kind: TokenKind, spelling: &[u8]) -> bool
-    ensures { result ≡ spec.is_sign before kind spelling.now }
+fn is_sign(before: Before, item: &Item) -> bool
+    ensures { (word : List ℕ) → IsItem word item.now → result ≡ spec.is_sign before (kind_of item.now) word }
 {
     match before {
         Before::Operand => false,
-        Before::Open => is_minus(kind, spelling),
-        Before::Sign => is_minus(kind, spelling),
+        Before::Open => is_minus(item),
+        Before::Sign => is_minus(item),
     }
 }
 
 /// What stands before the next token.
 #[tactic(auto, unfolding(abc_text::specs::Tokens::stands_after))]
-pub fn stands_after(before: Before, kind: TokenKind, spelling: &[u8]) -> Before
-    ensures { result ≡ spec.stands_after before kind spelling.now }
+pub fn stands_after(before: Before, item: &Item) -> Before
+    ensures { (word : List ℕ) → IsItem word item.now → result ≡ spec.stands_after before (kind_of item.now) word }
 {
-    if ends_operand(kind, spelling) {
+    if ends_operand(item) {
         Before::Operand
-    } else if is_sign(before, kind, spelling) {
+    } else if is_sign(before, item) {
         Before::Sign
     } else {
         Before::Open

@@ -14,10 +14,6 @@ use Rattle.abc_parse.specs.declared.front.Front.TheVariants as front
 use Rattle.abc_parse.specs.Fronting.{IsFrontOf}
 use Rattle.abc_parse.proofs.Texts.{faults_lexical}
 
-pub scanned_is : (names : List (List ℕ)) (bytes : List ℕ) (ts us : List Token) (fault : Option Fault) (ls : List Lexeme) → Reads bytes ts fault → us ≡ ts
-    → ls ≡ lexemes_of (names_behind names bytes us) bytes us → IsScanned names bytes ts fault ls
-scanned_is names bytes ts us fault ls reads same meant = record { read = reads; meant = meant ∙ ap (λ (vs : List Token). lexemes_of (names_behind names bytes vs) bytes vs) same }
-
 pub refused_begins : (names : List (List ℕ)) (bytes : List ℕ) (ts : List Token) (fault : Option Fault) (ls : List Lexeme) (n : ℕ) (c : Cause) (place : ℕ) → IsScanned names bytes ts fault ls
     → IsFrontOf ls (front.Refused n c) → place ≡ place_at ts fault (length bytes) n → BeginsWithNoPred names bytes place c
 refused_begins names bytes ts fault ls n c place scanned h stands = record {

@@ -18,10 +18,12 @@ use Rattle.abc_parse.specs.declared.front.Tried.TheVariants as tried
 use Rattle.abc_parse.specs.declared.front.Front.TheVariants as front
 use Rattle.abc_readers.specs.Operands.{Tokens}
 use Rattle.abc_readers.specs.Preds.{pred}
-use Rattle.abc_parse.specs.Limiting.{start, first_limit}
+use Rattle.abc_limits.specs.Limiting.{start, first_limit}
 use Rattle.abc_parse.specs.Fronting.{IsTried, IsFrontOf}
-use Rattle.abc_parse.proofs.LimitLaws.{first_none, first_some, passes_limit, passes_none, passes_first}
-use Rattle.abc_parse.proofs.Exact.{NoLimits, IsPart, owed, reached, read_part, cut_part, take_front, take_split, take_length, take_all, one_of, begins_front, wrong_token, syntax_at, limit_at, end_at}
+use Rattle.abc_limits.proofs.LimitLaws.{first_none, first_some, passes_limit, passes_none, passes_first}
+use Rattle.abc_parse.proofs.Lists.{take_front, take_split, take_length, take_all, one_of}
+use Rattle.abc_parse.proofs.Causes.{NoLimits, begins_front, syntax_at, limit_at, end_at}
+use Rattle.abc_parse.proofs.Exact.{IsPart, owed, reached, read_part, cut_part, wrong_token}
 
 -- ---- where the first limit is passed
 got : (ts : Tokens) (k : ℕ) → k < length ts → (t : Lexeme) × (slice_get ts k ≡ Some t)
@@ -32,7 +34,7 @@ got (t ∷ ts) (suc k) h = got ts k (omega arith)
 -- so many tokens pass no limit, and no front that is a predicate within its limits is longer
 pub record Bounds (ts : Tokens) (d : ℕ) : Type 0 where
   pub exists : d ≤ length ts
-  pub none : NoLimits ts d
+  pub none : NoLimits IsSomePred BeginsExtraToken ts d
   pub most : (m : ℕ) (q : Pred) → IsFront ts m q → m ≤ d
 
 pub without_limit : (ts : Tokens) → first_limit ts ≡ None → Bounds ts (length ts)
@@ -121,7 +123,7 @@ refused ts d n b (c, vs, e, len, some) =
     let begins : Begins IsSomePred h.mid = (h.begins.0, (h.begins.1, h.begins.2)) in (
       no_front ts d c vs b e,
       omega (arith, range, le),
-      λ fault. syntax_at ts fault n (omega (arith, range, le)) (subst (λ (us : Tokens). Begins IsSomePred us) (sym stands) begins) (λ k lt x. b.none k (omega (arith, lt, range)) x)
+      λ fault. syntax_at IsSomePred BeginsExtraToken ts fault n (omega (arith, range, le)) (subst (λ (us : Tokens). Begins IsSomePred us) (sym stands) begins) (λ k lt x. b.none k (omega (arith, lt, range)) x)
           (λ g. wrong_token h.mid o.1 o.0 c (λ ws k. h.same ws (k ∙ sym (ap first o.2))) (subst (λ (us : Tokens). Begins IsSomePred us) stands' g)),
     )
 
@@ -132,7 +134,7 @@ ends ts b (c, e) =
     let h = owed ts (Refused c []) e' in
     let begins : Begins IsSomePred ts = (h.begins.0, (h.begins.1, subst (λ (us : Tokens). IsPred (us ++ h.begins.0) h.begins.1) (sym (h.whole ∙ append-nil h.mid)) h.begins.2)) in (
       no_front ts (length ts) c [] b e,
-      λ fault lexical. end_at ts fault lexical begins b.none (λ p. reached ts ts [] p.0 (Refused c []) (sym (append-nil ts)) p.1 e'),
+      λ fault lexical. end_at IsSomePred BeginsExtraToken ts fault lexical begins b.none (λ p. reached ts ts [] p.0 (Refused c []) (sym (append-nil ts)) p.1 e'),
     )
 
 -- ---- with the token that passes a limit
@@ -157,7 +159,7 @@ module _ (ts : Tokens) (n : ℕ) (c : Cause) (limit : IsFirstLimit ts n c) (befo
       more (suc i) (u ∷ us) h = let r = more i us (omega arith) in (r.0, ap (λ (vs : Tokens). u ∷ vs) r.1)
 
   limit_applies : Begins IsSomePred (take (n + 1) ts) → IsFrontOf ts (front.Refused n c)
-  limit_applies b = (none_before, limit.exists, λ fault. limit_at ts fault n c limit.exists b limit.bounds.none limit.passes limit.first)
+  limit_applies b = (none_before, limit.exists, λ fault. limit_at IsSomePred BeginsExtraToken ts fault n c limit.exists b limit.bounds.none limit.passes limit.first)
 
   -- a front of these tokens that is a predicate is all of them
   whole_front : (mid us : Tokens) (q : Pred) → take (n + 1) ts ≡ mid ++ us → IsPred mid q → Begins IsSomePred (take (n + 1) ts)
@@ -180,11 +182,11 @@ module _ (ts : Tokens) (n : ℕ) (c : Cause) (limit : IsFirstLimit ts n c) (befo
 
   pub limit_refused : (m : ℕ) → IsTried (take (n + 1) ts) (tried.Refused m) → IsFrontOf ts (front.Refused n cause.Syntax)
   limit_refused m (d, vs, e, len, some) =
-      (none_before, limit.exists, λ fault. syntax_at ts fault n limit.exists begins_before limit.bounds.none wrong)
+      (none_before, limit.exists, λ fault. syntax_at IsSomePred BeginsExtraToken ts fault n limit.exists begins_before limit.bounds.none wrong)
     where
       wrong : Begins IsSomePred (take (n + 1) ts) → ⊥
       wrong b =
           let h = owed (take (n + 1) ts) (Refused d vs) e in
           let o = one_of vs some in
           let whole' : take (n + 1) ts ≡ (h.mid ++ o.0 ∷ []) ++ o.1 = h.whole ∙ ap (λ (us : Tokens). h.mid ++ us) o.2 ∙ sym (append_assoc h.mid (o.0 ∷ []) o.1) in
-          wrong_token h.mid o.1 o.0 d (λ ws k. h.same ws (k ∙ sym (ap first o.2))) (begins_front (h.mid ++ o.0 ∷ []) o.1 (subst (λ (us : Tokens). Begins IsSomePred us) whole' b))
+          wrong_token h.mid o.1 o.0 d (λ ws k. h.same ws (k ∙ sym (ap first o.2))) (begins_front IsSomePred BeginsExtraToken (h.mid ++ o.0 ∷ []) o.1 (subst (λ (us : Tokens). Begins IsSomePred us) whole' b))

@@ -1,11 +1,10 @@
-pub mod Steps
-pub mod Written
-pub mod NoTuples
-pub mod LimitLaws
+pub mod Lists
+pub mod Causes
+pub mod Fits
 pub mod Exact
 pub mod Fronts
-pub mod Naming
 pub mod Texts
 pub mod Begins
-pub mod ExprSteps
-pub mod Tuples
+pub mod ItemSteps
+pub mod Programs
+pub mod WholeTexts

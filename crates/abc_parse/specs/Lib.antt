@@ -1,6 +1,5 @@
-pub mod Answers
-pub mod Joining
-pub mod Limiting
 pub mod Fronting
 pub mod Reading
-pub mod Tuples
+pub mod Items
+pub mod Programs
+pub mod WholeTexts

@@ -1,12 +1,13 @@
 //! The longest front of a list of lexemes that is a predicate.
 ghost use Rattle.std.specs.Prelude.{◌≡◌, ◌<◌, ◌≤◌, ◌+◌, length, take, IfOk, Some};
-ghost use Rattle.abc_parse.specs.Limiting.{first_limit};
+ghost use Rattle.abc_limits.specs.Limiting.{first_limit};
+ghost use Rattle.abc_phrases.specs.Fitting.{SetsFit};
 ghost use Rattle.abc_parse.specs.Fronting.{IsTried, IsFrontOf};
 
-use crate::limits::first_limit;
-use crate::parser::{Parser, Part, Stop};
 use abc_cause::Cause;
 use abc_grammar::Lexeme;
+use abc_limits::first_limit_of_pred;
+use abc_phrases::{Left, Parser, Part, Stop};
 use abc_pred::Pred;
 use abc_value::NoMemory;
 use std::alloc::Global;
@@ -34,11 +35,13 @@ pub enum Front {
 }
 
 fn try_front(alloc: Global, lexemes: &[Lexeme]) -> Result<Tried, NoMemory>
+    requires fits { SetsFit lexemes.now }
     ensures { IfOk result (λ t. IsTried lexemes.now t) }
 {
+    let left = Left::of(lexemes);
     let mut parser = Parser {
-        rest: lexemes,
-        ahead: lexemes,
+        rest: left,
+        ahead: left,
         alloc,
     };
     match parser.pred() {
@@ -46,7 +49,7 @@ fn try_front(alloc: Global, lexemes: &[Lexeme]) -> Result<Tried, NoMemory>
         Ok(Part::Cut(found, _)) => Ok(Tried::Pred(found, lexemes.len() - parser.rest.len())),
         Err(Stop::NoMemory) => Err(NoMemory),
         Err(Stop::Refused(_)) => {
-            if parser.rest.is_empty() {
+            if parser.rest.len() == 0 {
                 Ok(Tried::Ends)
             } else {
                 Ok(Tried::Refused(lexemes.len() - parser.rest.len()))
@@ -83,7 +86,7 @@ fn limited(
 pub fn front_of(alloc: Global, lexemes: &[Lexeme]) -> Result<Front, NoMemory>
     ensures { IfOk result (λ f. IsFrontOf lexemes.now f) }
 {
-    match first_limit(lexemes) {
+    match first_limit_of_pred(lexemes) {
         None => match try_front(alloc, lexemes)? {
             Tried::Pred(found, count) => Ok(Front::Pred(found, count)),
             Tried::Refused(number) => Ok(Front::Refused(number, Cause::Syntax)),

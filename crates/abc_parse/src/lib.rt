@@ -2,23 +2,19 @@
 //! first thing wrong with it.
 #![tactic(auto)]
 
-mod expr;
 mod front;
-mod laws;
-mod lexemes;
-mod limits;
-mod literal;
-mod operand;
-mod parser;
-mod pred;
-mod tuple;
+mod items;
+mod parsing;
+mod places;
+mod program;
+mod reading;
 mod whole;
+mod words;
 
 pub use abc_lexer::{
     Cause, Fault, Names, Scanned, TextRefusal, Token, TokenKind, named, names_of, number, scan,
     spelling, text, tokens,
 };
 pub use front::{Front, front_of};
-pub use laws::lists_are_read;
-pub use parser::{Parser, Part, Stop};
+pub use parsing::{Parsed, Places, parse};
 pub use whole::parse_pred;

@@ -11,10 +11,9 @@ ghost use Rattle.abc_grammar.specs.Fronts.{BeginsWithPred};
 ghost use Rattle.abc_parse.specs.Reading.{IsBegun, IsPredRefusal, IsRefusedIfNone};
 
 use crate::front::{Front, front_of};
-use crate::lexemes::{lexemes_of, numbered};
 use abc_cause::Cause;
-use abc_grammar::Lexeme;
-use abc_lexer::{Fault, TextRefusal, Token, scan};
+use abc_lexemes::{Lexed, new_names, read_lexemes};
+use abc_lexer::{Fault, TextRefusal, Token};
 use abc_pred::Pred;
 use abc_value::{List, NoMemory, ShortText};
 use std::alloc::Global;
@@ -38,21 +37,21 @@ fn front_end(tokens: &[Token], count: usize) -> usize
     }
 }
 
-/// Where a token begins; the bad token and the end count as one more.
-fn place_at(tokens: &[Token], fault: Option<Fault>, size: usize, number: usize) -> u32
+/// Where a token of a text of this size begins; the bad token and the end count as one more.
+pub fn place_at(lexed: &Lexed<'_>, size: usize, number: usize) -> u32
     requires { size < 2 ^ 32 }
-    ensures { result ≡ refusal.place_at tokens.now fault size number }
+    ensures { result ≡ refusal.place_at lexed.now.tokens lexed.now.fault size number }
 {
-    match tokens.get(number) {
+    match lexed.tokens.get(number) {
         Some(token) => token.place,
-        None => match fault {
+        None => match lexed.fault {
             Some(fault) => fault.place,
             None => size as u32,
         },
     }
 }
 
-fn cause_at_end(fault: Option<Fault>) -> Cause
+pub fn cause_at_end(fault: Option<Fault>) -> Cause
     ensures { result ≡ refusal.end_cause fault }
 {
     match fault {
@@ -61,84 +60,25 @@ fn cause_at_end(fault: Option<Fault>) -> Cause
     }
 }
 
-/// A word as a text. No word is longer than a text.
-fn word_text(word: &[u8]) -> ShortText
-    requires { IsWord word.now }
-    ensures { result ≡ word.now }
-{
-    ShortText::from_bytes(word).unwrap()
-}
-
-/// The words as texts.
-fn texts(alloc: Global, words: &[&[u8]]) -> Result<List<ShortText>, NoMemory>
-    requires { All (λ w. IsWord w.now) words.now }
-    ensures { IfOk result (λ ts. ts ≡ map (λ w. w.now) words.now) }
-{
-    let mut made = List::new(alloc);
-    for word in words {
-        made.push(word_text(*word))?;
-    }
-    Ok(made)
-}
-
-/// The words that the tokens name first, behind the names that have numbers.
-fn new_names(
-    alloc: Global,
-    names: &[ShortText],
-    bytes: &[u8],
-    tokens: &[Token],
-) -> Result<List<ShortText>, NoMemory>
-    requires stands { All (StandsIn bytes.now) tokens.now }
-    requires different { AreDifferent names.now }
-    requires few { length names.now + length tokens.now < 2 ^ 32 }
-    ensures { IfOk result (λ more. names_behind names.now bytes.now tokens.now ≡ names.now ++ more) }
-{
-    let known = numbered(alloc, names, bytes, tokens)?;
-    let (_, more) = known.words().split_at(names.len());
-    texts(alloc, more)
-}
-
-/// What the tokens stand for, with the names numbered on from those that have numbers.
-fn meant(
-    alloc: Global,
-    names: &[ShortText],
-    bytes: &[u8],
-    tokens: &[Token],
-) -> Result<List<Lexeme>, NoMemory>
-    requires stands { All (StandsIn bytes.now) tokens.now }
-    requires different { AreDifferent names.now }
-    requires few { length names.now + length tokens.now < 2 ^ 32 }
-    ensures { IfOk result (λ ls. ls ≡ meaning.lexemes_of (names_behind names.now bytes.now tokens.now) bytes.now tokens.now) }
-{
-    let mut known = numbered(alloc, names, bytes, tokens)?;
-    lexemes_of(alloc, bytes, tokens, &mut known)
-}
-
 /// The longest front of the text that is a predicate within its limits, or the first thing wrong.
 fn front_of_text(alloc: Global, bytes: &[u8], names: &[ShortText]) -> Result<Begun, NoMemory>
     requires different { AreDifferent names.now }
     requires few { length names.now + length bytes.now < 2 ^ 32 }
     ensures { IfOk result (λ b. IsBegun names.now bytes.now b) }
 {
-    let scanned = scan(alloc, bytes)?;
-    let fault = scanned.fault;
-    let tokens = scanned.tokens.as_slice();
-    let lexemes = meant(alloc, names, bytes, tokens)?;
-    match front_of(alloc, lexemes.as_slice())? {
+    let lexed = read_lexemes(alloc, names, bytes)?;
+    match front_of(alloc, lexed.lexemes.as_slice())? {
         Front::Pred(pred, count) => {
-            let (read, _) = tokens.split_at(count);
-            let more = new_names(alloc, names, bytes, read)?;
-            Ok(Begun::Pred(pred, front_end(tokens, count), more))
+            let more = new_names(alloc, names, bytes, &lexed, count)?;
+            let size = front_end(lexed.tokens.as_slice(), count);
+            Ok(Begun::Pred(pred, size, more))
         }
         Front::Refused(number, cause) => {
-            Ok(Begun::Refused(place_at(tokens, fault, bytes.len(), number), cause))
+            Ok(Begun::Refused(place_at(&lexed, bytes.len(), number), cause))
         }
         Front::Ends => {
-            let number = lexemes.len();
-            Ok(Begun::Refused(
-                place_at(tokens, fault, bytes.len(), number),
-                cause_at_end(fault),
-            ))
+            let place = place_at(&lexed, bytes.len(), lexed.lexemes.len());
+            Ok(Begun::Refused(place, cause_at_end(lexed.fault)))
         }
     }
 }

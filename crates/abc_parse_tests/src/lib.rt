@@ -1,6 +1,8 @@
-//! Tests of reading operands and predicates.
+//! Tests of reading predicates and programs.
 #![tactic(auto)]
 
+#[cfg(test)]
+mod programs;
 #[cfg(test)]
 mod shown;
 #[cfg(test)]

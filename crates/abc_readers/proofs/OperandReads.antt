@@ -10,8 +10,8 @@ use Rattle.abc_pred.specs.Terms as o
 use Rattle.abc_cause.specs.declared.Cause.TheVariants.{Syntax}
 use Rattle.abc_grammar.specs.declared.lexemes.Lexeme.{Lexeme}
 use Rattle.abc_grammar.specs.declared.lexemes.Lexeme.TheVariants as l
-use Rattle.abc_grammar.specs.declared.lexemes.Mark.TheVariants as m
-use Rattle.abc_grammar.specs.declared.lexemes.Keyword.TheVariants as k
+use Rattle.abc_text.specs.declared.words.Mark.TheVariants as m
+use Rattle.abc_text.specs.declared.words.Keyword.TheVariants as k
 use Rattle.abc_grammar.specs.Listed.{AreListed, MayBeListed}
 use Rattle.abc_grammar.specs.Listed as gl
 use Rattle.abc_grammar.specs.Literals.{IsScalar, IsLiteral}
@@ -93,7 +93,7 @@ members_reads ts = bind_owes (AreListed IsScalar) AreMembers (listed scalar) clo
     (λ xs us mid h. close_curly_owes mid us xs h)
     (λ mid b. (b.0 ++ l.Mark m.CloseCurly ∷ [], b.1, (mid ++ b.0, sym (append_assoc mid b.0 (l.Mark m.CloseCurly ∷ [])), gl.some b.2)))
 
-members_at_reads : Reads AreMembers members_at
+pub members_at_reads : Reads AreMembers members_at
 members_at_reads [] = like_end_owes AreMembers members_at members (members []) refl (members_reads [])
 members_at_reads (l.Mark m.CloseCurly ∷ ts) = take_owes AreMembers members_at [] (l.Mark m.CloseCurly) ts [] ([], refl, gl.none) (λ vs. refl)
 members_at_reads (t ∷ ts) = like_owes AreMembers members_at members t ts (members (t ∷ ts)) (λ us. refl) (members_reads (t ∷ ts))

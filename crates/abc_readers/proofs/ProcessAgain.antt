@@ -4,8 +4,8 @@ use Rattle.abc_term.specs.Processes.{Process}
 use Rattle.abc_term.specs.Processes as P
 use Rattle.abc_cause.specs.declared.Cause.TheVariants.{Syntax}
 use Rattle.abc_grammar.specs.declared.lexemes.Lexeme.TheVariants as l
-use Rattle.abc_grammar.specs.declared.lexemes.Mark.TheVariants as m
-use Rattle.abc_grammar.specs.declared.lexemes.Keyword.TheVariants as k
+use Rattle.abc_text.specs.declared.words.Mark.TheVariants as m
+use Rattle.abc_text.specs.declared.words.Keyword.TheVariants as k
 use Rattle.abc_grammar.specs.Processes.{IsProcess, IsChoice, IsPrefix}
 use Rattle.abc_reading.specs.Reading.{Read, Cut, Refused, ◌>>=◌, mapped, times, again, chain}
 use Rattle.abc_reading.proofs.Laws.{Begins, left_of, Owes, Reads, refuse_at_owes, refuse_end_owes}

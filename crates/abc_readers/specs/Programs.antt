@@ -5,8 +5,8 @@ use Rattle.abc_pred.specs.declared.names.Name.{Name}
 use Rattle.abc_term.specs.Processes.{Process}
 use Rattle.abc_grammar.specs.declared.lexemes.Lexeme.{Lexeme}
 use Rattle.abc_grammar.specs.declared.lexemes.Lexeme.TheVariants as l
-use Rattle.abc_grammar.specs.declared.lexemes.Mark.TheVariants as m
-use Rattle.abc_grammar.specs.declared.lexemes.Keyword.TheVariants as k
+use Rattle.abc_text.specs.declared.words.Mark.TheVariants as m
+use Rattle.abc_text.specs.declared.words.Keyword.TheVariants as k
 use Rattle.abc_grammar.specs.Plain.{PlainComponent, PlainProgram}
 use Rattle.abc_reading.specs.Reading.{Read, ◌>>=◌, mapped}
 use Rattle.abc_readers.specs.Operands.{Tokens, Reading, refuse, literal}

@@ -12,7 +12,8 @@ use Rattle.abc_text.specs.declared.lexical.Next.{Next}
 use Rattle.abc_text.specs.declared.lexical.Next.TheVariants.{End, Good, Bad}
 use Rattle.abc_value.specs.declared.limits.TheConstants.{LONGEST_TEXT}
 use Rattle.abc_text.specs.declared.limits.TheConstants.{MOST_NAME}
-use Rattle.abc_text.specs.Tokens.{is_letter, is_digit, is_word_byte, is_symbol, is_quote_mark, is_printable, word_len, word_token, variable_token, decimal, greatest, number_token, one_more, text_len, text_value, closed_text, text_token, colon_token, token_at, next}
+use Rattle.abc_text.specs.Tokens.{is_letter, is_digit, is_word_byte, is_quote_mark, is_printable, word_len, word_token, variable_token, decimal, greatest, number_token, one_more, text_len, text_value, closed_text, text_token, two_token, token_at, next}
+use Rattle.abc_text.specs.Words.{is_mark}
 use Rattle.abc_text.proofs.Lengths.{none_some, some_same, more_some}
 use Rattle.abc_text.proofs.Forward.{run_long, letter_is_word, good_within}
 
@@ -30,7 +31,7 @@ run_run p (b ∷ bs) = by (run_run p bs) (p b) refl
         ap (take_while p) here ∙ sym here
 
 -- as many bytes as a run has are the run
-take_run : (p : ℕ → Bool) (bs : List ℕ) → take (length (take_while p bs)) bs ≡ take_while p bs
+pub take_run : (p : ℕ → Bool) (bs : List ℕ) → take (length (take_while p bs)) bs ≡ take_while p bs
 take_run p bs = ap (λ (n : ℕ). take n bs) (length-take-le (prefix_len p bs) bs (prefix_len-le-length p bs))
 
 run_alone : (p : ℕ → Bool) (bs : List ℕ) (n : ℕ) → length (take_while p bs) ≡ n → take_while p (take n bs) ≡ take_while p bs
@@ -121,7 +122,7 @@ pub record ClosesAt (escape : Bool) (w : List ℕ) (n : ℕ) : Type 0 where
 plus_one : (m n : ℕ) → n ≡ suc m → m + 1 ≡ n
 plus_one m n e = omega (arith, e)
 
-closes_at : (escape : Bool) (w : List ℕ) (n : ℕ) → text_len escape w ≡ Some n → ClosesAt escape w n
+pub closes_at : (escape : Bool) (w : List ℕ) (n : ℕ) → text_len escape w ≡ Some n → ClosesAt escape w n
 closes_at escape [] n e = absurd (none_some n e)
 closes_at true (b ∷ w) n e = by (closes_at false w) (is_quote_mark b) refl e
   where
@@ -175,15 +176,15 @@ keeps_text n w k e =
     let h = closes_at false w n s in
     (λ i. closed_text (length (h.value i)) ((h.len ∙ sym s) i)) ∙ e
 
-keeps_colon : (n : ℕ) (w : List ℕ) → Keeps (suc n) (colon_token w) (colon_token (take n w))
+keeps_two : (n : ℕ) (b : ℕ) (w : List ℕ) → Keeps (suc n) (two_token (b ∷ w)) (two_token (b ∷ take n w))
 unfolding Keeps
-keeps_colon n [] k e = absurd (let e' : Bad BadByte ≡ Good k (suc n) = e in cc)
-keeps_colon zero (b ∷ w) k e = by (b == 61) e
+keeps_two n b [] k e = absurd (let e' : Bad BadByte ≡ Good k (suc n) = e in cc)
+keeps_two zero b (c ∷ w) k e = by (is_mark (b ∷ (c ∷ []))) e
   where
-    by : (c : Bool) → (if c then Good Symbol 2 else Bad BadByte) ≡ Good k 1 → colon_token [] ≡ Good k 1
+    by : (t : Bool) → (if t then Good Symbol 2 else Bad BadByte) ≡ Good k 1 → two_token (b ∷ []) ≡ Good k 1
     by true e = absurd (let e' = good_len Symbol k 2 1 e in omega (arith, e'))
     by false e = absurd (let e' : Bad BadByte ≡ Good k 1 = e in cc)
-keeps_colon (suc n) (b ∷ w) k e = e
+keeps_two (suc n) b (c ∷ w) k e = e
 
 keeps_token : (before : Before) (n : ℕ) (b : ℕ) (w : List ℕ) → Keeps (suc n) (token_at before (b ∷ w)) (token_at before (b ∷ take n w))
 keeps_token before n b w =
@@ -191,9 +192,8 @@ keeps_token before n b w =
     keeps_if (suc n) (b == 36) _ _ _ _ (λ _. keeps_variable n w) (λ _.
     keeps_if (suc n) (is_digit b) _ _ _ _ (λ _. keeps_number before (suc n) (b ∷ w)) (λ _.
     keeps_if (suc n) (b == 34) _ _ _ _ (λ _. keeps_text n w) (λ _.
-    keeps_if (suc n) (is_symbol b) _ _ _ _ (λ _. keeps_same (suc n) (Good Symbol 1)) (λ _.
-    keeps_if (suc n) (b == 58) _ _ _ _ (λ _. keeps_colon n w) (λ _.
-    keeps_bad (suc n) BadByte (Bad BadByte)))))))
+    keeps_if (suc n) (is_mark (b ∷ [])) _ _ _ _ (λ _. keeps_same (suc n) (Good Symbol 1)) (λ _.
+    keeps_two n b w)))))
 
 pub token_alone : (before : Before) (bytes : List ℕ) (k : TokenKind) (n : ℕ) → next before bytes ≡ Good k n → next before (take n bytes) ≡ Good k n
 unfolding next Keeps

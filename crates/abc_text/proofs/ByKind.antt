@@ -9,7 +9,8 @@ use Rattle.abc_text.specs.declared.lexical.Next.{Next}
 use Rattle.abc_text.specs.declared.lexical.Next.TheVariants.{End, Good, Bad}
 use Rattle.abc_value.specs.declared.limits.TheConstants.{LONGEST_TEXT}
 use Rattle.abc_text.specs.declared.limits.TheConstants.{MOST_NAME}
-use Rattle.abc_text.specs.Tokens.{is_letter, is_digit, is_symbol, word_len, variable_token, decimal, greatest, number_token, text_len, text_value, closed_text, text_token, colon_token, IsLexical, next}
+use Rattle.abc_text.specs.Tokens.{is_letter, is_digit, word_len, variable_token, decimal, greatest, number_token, text_len, text_value, closed_text, text_token, two_token, IsLexical, next}
+use Rattle.abc_text.specs.Words.{is_mark}
 
 module _ (before : Before) (P : List ℕ → Next → Type 0) (end : P [] End) (bad : (bs : List ℕ) (c : Cause) → IsLexical c → P bs (Bad c))
     (word : (b : ℕ) (bs : List ℕ) → nat_le (word_len (b ∷ bs)) MOST_NAME ≡ true → P (b ∷ bs) (Good Word (word_len (b ∷ bs))))
@@ -18,8 +19,8 @@ module _ (before : Before) (P : List ℕ → Next → Type 0) (end : P [] End) (
     P bs (Good Number (length (take_while is_digit bs))))
     (text : (b : ℕ) (bs : List ℕ) (n : ℕ) → text_len false bs ≡ Some n → nat_le (length (text_value false bs)) LONGEST_TEXT ≡ true →
     P (b ∷ bs) (Good Text (n + 1)))
-    (symbol : (b : ℕ) (bs : List ℕ) → is_symbol b ≡ true → P (b ∷ bs) (Good Symbol 1))
-    (becomes : (b x : ℕ) (xs : List ℕ) → (b == 58) ≡ true → (x == 61) ≡ true → P (b ∷ (x ∷ xs)) (Good Symbol 2)) where
+    (one : (b : ℕ) (bs : List ℕ) → is_mark (b ∷ []) ≡ true → P (b ∷ bs) (Good Symbol 1))
+    (two : (b x : ℕ) (xs : List ℕ) → is_mark (b ∷ (x ∷ [])) ≡ true → P (b ∷ (x ∷ xs)) (Good Symbol 2)) where
   if_next : (bs : List ℕ) (c : Bool) (x y : Next) → (c ≡ true → P bs x) → P bs y → P bs (if c then x else y)
   if_next bs true x y f g = f refl
   if_next bs false x y f g = g
@@ -47,9 +48,9 @@ module _ (before : Before) (P : List ℕ → Next → Type 0) (end : P [] End) (
   unfolding text_token
   if_text b bs = if_closed b bs (text_len false bs) refl
 
-  if_colon : (b : ℕ) (bs : List ℕ) → (b == 58) ≡ true → P (b ∷ bs) (colon_token bs)
-  if_colon b [] h = bad (b ∷ []) BadByte tt
-  if_colon b (x ∷ xs) h = if_next (b ∷ (x ∷ xs)) (x == 61) (Good Symbol 2) (Bad BadByte) (λ e. becomes b x xs h e) (bad (b ∷ (x ∷ xs)) BadByte tt)
+  if_two : (b : ℕ) (bs : List ℕ) → P (b ∷ bs) (two_token (b ∷ bs))
+  if_two b [] = bad (b ∷ []) BadByte tt
+  if_two b (x ∷ xs) = if_next (b ∷ (x ∷ xs)) (is_mark (b ∷ (x ∷ []))) (Good Symbol 2) (Bad BadByte) (two b x xs) (bad (b ∷ (x ∷ xs)) BadByte tt)
 
   pub by_kind : (bytes : List ℕ) → P bytes (next before bytes)
   unfolding next
@@ -61,5 +62,4 @@ module _ (before : Before) (P : List ℕ → Next → Type 0) (end : P [] End) (
       (if_next (b ∷ bs) (b == 36) _ _ (λ _. if_variable b bs)
       (if_next (b ∷ bs) (is_digit b) _ _ (λ _. if_number (b ∷ bs))
       (if_next (b ∷ bs) (b == 34) _ _ (λ _. if_text b bs)
-      (if_next (b ∷ bs) (is_symbol b) _ _ (λ h. symbol b bs h)
-      (if_next (b ∷ bs) (b == 58) _ _ (λ h. if_colon b bs h) (bad (b ∷ bs) BadByte tt))))))
+      (if_next (b ∷ bs) (is_mark (b ∷ [])) _ _ (one b bs) (if_two b bs)))))

@@ -1,6 +1,5 @@
 -- A bad token is bad for a cause of tokens.
-use Rattle.std.proofs.Common.{ℕ, List, [], ◌∷◌, Option, Some, None, subst}
-use Rattle.abc_text.specs.declared.lexical.TokenKind.TheVariants.{Word, Variable, Number, Text, Symbol}
+use Rattle.std.proofs.Common.{ℕ, List, [], ◌∷◌, Some, subst}
 use Rattle.abc_text.specs.declared.lexical.Before.{Before}
 use Rattle.abc_text.specs.declared.lexical.Before.TheVariants.{Open}
 use Rattle.abc_text.specs.declared.lexical.Next.{Next}
@@ -18,7 +17,7 @@ IfBad bytes (Good k n) = Unit {0}
 
 bad_is : (before : Before) (bytes : List ℕ) → IfBad bytes (next before bytes)
 unfolding IfBad
-bad_is before = by_kind before IfBad tt (λ _ c h. h) (λ _ _ _. tt) (λ _ _ _. tt) (λ _ _. tt) (λ _ _ _ _ _. tt) (λ _ _ _. tt) (λ _ _ _ _ _. tt)
+bad_is before = by_kind before IfBad tt (λ _ c h. h) (λ _ _ _. tt) (λ _ _ _. tt) (λ _ _. tt) (λ _ _ _ _ _. tt) (λ _ _ _. tt) (λ _ _ _ _. tt)
 
 lexical : (size : ℕ) (before : Before) (bytes : List ℕ) (ts : List Token) (fault : Fault) → IsRead size before bytes ts (Some fault) →
     IsLexical fault.cause

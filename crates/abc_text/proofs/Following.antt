@@ -10,7 +10,8 @@ use Rattle.abc_text.specs.declared.lexical.Before.{Before}
 use Rattle.abc_text.specs.declared.lexical.Next.{Next}
 use Rattle.abc_text.specs.declared.lexical.Next.TheVariants.{End, Good, Bad}
 use Rattle.abc_text.specs.declared.limits.TheConstants.{MOST_NAME}
-use Rattle.abc_text.specs.Tokens.{is_letter, is_digit, is_word_byte, is_symbol, is_quote_mark, is_printable, word_len, word_token, variable_token, decimal, greatest, number_token, one_more, text_len, text_value, closed_text, text_token, colon_token, token_at, next}
+use Rattle.abc_text.specs.Tokens.{is_letter, is_digit, is_word_byte, is_quote_mark, is_printable, word_len, word_token, variable_token, decimal, greatest, number_token, one_more, text_len, text_value, closed_text, text_token, two_token, token_at, next}
+use Rattle.abc_text.specs.Words.{is_mark}
 use Rattle.abc_text.specs.Laws.{Stops, MayFollow}
 use Rattle.abc_text.proofs.Lengths.{none_some, more_some}
 
@@ -127,9 +128,9 @@ keeps_text n rest w k e m =
     let h = closes false w rest s.0 s.1 in
     (λ i. closed_text (length (h.1 i)) (h.0 i)) ∙ e
 
-keeps_colon : (n : ℕ) (rest w : List ℕ) → Keeps rest n (colon_token w) (colon_token (w ++ rest))
-keeps_colon n rest [] = keeps_bad rest n BadByte (colon_token rest)
-keeps_colon n rest (b ∷ w) = keeps_same rest n (if b == 61 then Good Symbol 2 else Bad BadByte)
+keeps_two : (n : ℕ) (rest : List ℕ) (b : ℕ) (w : List ℕ) → Keeps rest n (two_token (b ∷ w)) (two_token (b ∷ (w ++ rest)))
+keeps_two n rest b [] = keeps_bad rest n BadByte (two_token (b ∷ rest))
+keeps_two n rest b (c ∷ w) = keeps_same rest n (if is_mark (b ∷ (c ∷ [])) then Good Symbol 2 else Bad BadByte)
 
 suc_plus : (n : ℕ) → n + 1 ≡ suc n
 suc_plus n = omega arith
@@ -140,9 +141,8 @@ keeps_token before rest b w =
     keeps_if rest (length (b ∷ w)) (b == 36) _ _ _ _ (λ _. subst (λ (n : ℕ). Keeps rest n (variable_token w) (variable_token (w ++ rest))) (suc_plus (length w)) (keeps_variable rest w)) (λ _.
     keeps_if rest (length (b ∷ w)) (is_digit b) _ _ _ _ (λ _. keeps_number before rest (b ∷ w)) (λ _.
     keeps_if rest (length (b ∷ w)) (b == 34) _ _ _ _ (λ _. keeps_text (length (b ∷ w)) rest w) (λ _.
-    keeps_if rest (length (b ∷ w)) (is_symbol b) _ _ _ _ (λ _. keeps_same rest (length (b ∷ w)) (Good Symbol 1)) (λ _.
-    keeps_if rest (length (b ∷ w)) (b == 58) _ _ _ _ (λ _. keeps_colon (length (b ∷ w)) rest w) (λ _.
-    keeps_bad rest (length (b ∷ w)) BadByte (Bad BadByte)))))))
+    keeps_if rest (length (b ∷ w)) (is_mark (b ∷ [])) _ _ _ _ (λ _. keeps_same rest (length (b ∷ w)) (Good Symbol 1)) (λ _.
+    keeps_two (length (b ∷ w)) rest b w)))))
 
 pub followed : (before : Before) (rest s : List ℕ) (k : TokenKind) → next before s ≡ Good k (length s) → MayFollow k rest → next before (s ++ rest) ≡ Good k (length s)
 unfolding next Keeps

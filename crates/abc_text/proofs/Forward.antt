@@ -11,7 +11,8 @@ use Rattle.abc_text.specs.declared.lexical.Next.{Next}
 use Rattle.abc_text.specs.declared.lexical.Next.TheVariants.{End, Good, Bad}
 use Rattle.abc_value.specs.declared.limits.TheConstants.{LONGEST_TEXT}
 use Rattle.abc_text.specs.declared.limits.TheConstants.{MOST_NAME}
-use Rattle.abc_text.specs.Tokens.{is_blank, is_letter, is_digit, is_word_byte, is_symbol, is_quote_mark, is_printable, one_more, skip_from, skip, word_len, word_token, variable_token, decimal, greatest, number_token, text_len, text_value, closed_text, text_token, colon_token, token_at, next}
+use Rattle.abc_text.specs.Tokens.{is_blank, is_letter, is_digit, is_word_byte, is_quote_mark, is_printable, one_more, skip_from, skip, word_len, word_token, variable_token, decimal, greatest, number_token, text_len, text_value, closed_text, text_token, two_token, token_at, next}
+use Rattle.abc_text.specs.Words.{is_mark}
 
 skip_from_le : (inside : Bool) (bytes : List ℕ) → length (skip_from inside bytes) ≤ length bytes
 skip_from_le inside [] = omega arith
@@ -98,10 +99,11 @@ text_within : (bs : List ℕ) → IsWithin (suc (length bs)) (text_token bs)
 unfolding text_token
 text_within bs = closed_within (length bs) (length (text_value false bs)) (text_len false bs) (text_at_most false bs)
 
-colon_within : (bs : List ℕ) → IsWithin (suc (length bs)) (colon_token bs)
+two_within : (b : ℕ) (bs : List ℕ) → IsWithin (suc (length bs)) (two_token (b ∷ bs))
 unfolding IsWithin
-colon_within [] = tt
-colon_within (b ∷ bs) = if_within (suc (length (b ∷ bs))) (b == 61) (Good Symbol 2) (Bad BadByte) (λ _. (omega arith, omega arith)) (λ _. tt)
+two_within b [] = tt
+two_within b (c ∷ bs) =
+    if_within (suc (length (c ∷ bs))) (is_mark (b ∷ (c ∷ []))) (Good Symbol 2) (Bad BadByte) (λ _. (omega arith, omega arith)) (λ _. tt)
 
 token_within : (before : Before) (bytes : List ℕ) → IsWithin (length bytes) (token_at before bytes)
 unfolding IsWithin
@@ -112,8 +114,7 @@ token_within before (b ∷ bs) =
     if_within all (b == 36) _ _ (λ _. variable_within bs) (λ _.
     if_within all (is_digit b) _ _ (number_within before b bs) (λ _.
     if_within all (b == 34) _ _ (λ _. text_within bs) (λ _.
-    if_within all (is_symbol b) _ _ (λ _. (omega arith, omega arith)) (λ _.
-    if_within all (b == 58) _ _ (λ _. colon_within bs) (λ _. tt))))))
+    if_within all (is_mark (b ∷ [])) _ _ (λ _. (omega arith, omega arith)) (λ _. two_within b bs)))))
 
 pub good_within : (before : Before) (bytes : List ℕ) (k : TokenKind) (n : ℕ) → next before bytes ≡ Good k n → (0 < n) × (n ≤ length bytes)
 unfolding next IsWithin

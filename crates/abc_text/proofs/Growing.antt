@@ -1,10 +1,12 @@
 -- The list of names only grows.
-use Rattle.std.proofs.Common.{◌≡◌, ℕ, zero, suc, ◌+◌, ◌<◌, Bool, true, false, List, [], ◌∷◌, ◌++◌, Option, Some, None, length, cond, refl, sym, ap, ◌∙◌, subst, append_assoc, append-nil, arith}
+use Rattle.std.proofs.Common.{◌≡◌, ℕ, zero, suc, ◌+◌, ◌<◌, Bool, true, false, List, [], ◌∷◌, ◌++◌, Option, Some, None, length, cond, eqb, eq-eqb, refl, sym, ap, ◌∙◌, subst, append_assoc, append-nil, arith}
 use Rattle.std.specs.Prelude.{◌||◌, not, if◌then◌else◌}
 use Rattle.std.specs.Str.{bytes_eq}
 use Rattle.std.proofs.lemmas.List.Sums.{fold-append}
 use Rattle.std.proofs.lemmas.Slice.Eq.{bytes_eq-Decides}
-use Rattle.std.proofs.lemmas.List.Folds.{list_any-append}
+use Rattle.std.proofs.lemmas.List.Folds.{list_any-append, prefix_len-append}
+use Rattle.std.proofs.lemmas.Bool.{ne_eqb}
+use Rattle.std.specs.List.{prefix_len}
 use Rattle.abc_text.specs.declared.lexical.Token.{Token}
 use Rattle.abc_text.specs.Meanings.{named, has_word, number_in, with_word, with_named, names_behind, HasName}
 use Rattle.abc_text.specs.Laws.{NamesStay, NamedHaveNumbers}
@@ -46,7 +48,7 @@ has_last words word = list_any-append (bytes_eq word) words (word ∷ []) ∙ by
     by true b h = refl
     by false b h = ap (λ (c : Bool). c || false) h
 
-with_word_has : (words : List (List ℕ)) (word : List ℕ) → has_word (with_word words word) word ≡ true
+pub with_word_has : (words : List (List ℕ)) (word : List ℕ) → has_word (with_word words word) word ≡ true
 with_word_has words word = by (has_word words word) refl
   where
     by : (b : Bool) → has_word words word ≡ b → has_word (if b then words else words ++ word ∷ []) word ≡ true
@@ -78,3 +80,35 @@ number_below (w ∷ ws) word h = by (number_below ws word) (bytes_eq word w) h
         (b || has_word ws word) ≡ true → cond (not b) (1 + number_in ws word) 0 < length (w ∷ ws)
     by more true e = omega arith
     by more false e = let below = more e in omega (arith, below)
+
+-- a word that has no number is given the next
+pub number_none : (words : List (List ℕ)) (word : List ℕ) → has_word words word ≡ false → number_in words word ≡ length words
+number_none [] word h = refl
+number_none (w ∷ ws) word h = by (number_none ws word) (bytes_eq word w) h
+  where
+    by : (has_word ws word ≡ false → number_in ws word ≡ length ws) → (b : Bool) →
+        (b || has_word ws word) ≡ false → cond (not b) (1 + number_in ws word) 0 ≡ length (w ∷ ws)
+    by more true e = absurd (let e' : true ≡ false = e in cc)
+    by more false e = let rest = more e in omega (arith, rest)
+
+-- the number of a word stays as more words come
+pub number_kept : (words more : List (List ℕ)) (word : List ℕ) → has_word words word ≡ true → number_in (words ++ more) word ≡ number_in words word
+number_kept words more word h =
+    let below = number_below words word h in
+    let other : eqb (number_in words word) (length words) ≡ false = ne_eqb _ _ (λ e. omega (arith, below, e)) in
+    prefix_len-append (λ (w : List ℕ). not (bytes_eq word w)) words more
+    ∙ ap (λ (b : Bool). cond b (length words + prefix_len (λ w. not (bytes_eq word w)) more) (number_in words word)) other
+
+-- and a word that gets a number has the number that it was to get
+pub number_given : (words : List (List ℕ)) (word : List ℕ) → number_in (with_word words word) word ≡ number_in words word
+number_given words word = by (has_word words word) refl
+  where
+    by : (b : Bool) → has_word words word ≡ b → number_in (if b then words else words ++ word ∷ []) word ≡ number_in words word
+    by true h = refl
+    by false h =
+        let next = number_none words word h in
+        let same : eqb (number_in words word) (length words) ≡ true = eq-eqb _ _ next in
+        let last : prefix_len (λ w. not (bytes_eq word w)) (word ∷ []) ≡ 0 = ap (λ (c : Bool). cond (not c) 1 0) (bytes_eq_refl word) in
+        prefix_len-append (λ (w : List ℕ). not (bytes_eq word w)) words (word ∷ [])
+        ∙ ap (λ (c : Bool). cond c (length words + prefix_len (λ w. not (bytes_eq word w)) (word ∷ [])) (number_in words word)) same
+        ∙ omega (arith, last, next)

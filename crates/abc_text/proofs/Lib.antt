@@ -7,6 +7,7 @@ pub mod Alone
 pub mod Standing
 pub mod ByKind
 pub mod OfKind
+pub mod Tables
 pub mod Faults
 pub mod Numbers
 pub mod ReadBack

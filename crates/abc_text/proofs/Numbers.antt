@@ -1,5 +1,5 @@
 -- A number of a text is below 2^63, or it is 2^63 and stands right behind a sign.
-use Rattle.std.proofs.Common.{◌≡◌, ℕ, ◌≤◌, ◌<◌, ◌^◌, ◌⊎◌, inl, inr, Bool, true, false, List, [], ◌∷◌, ◌++◌, length, take, drop, Option, refl, sym, ap, ◌∙◌, subst, arith}
+use Rattle.std.proofs.Common.{◌≡◌, ℕ, ◌≤◌, ◌<◌, ◌^◌, ◌⊎◌, inl, inr, Bool, true, false, List, [], ◌∷◌, ◌++◌, length, take, Option, refl, sym, ap, ◌∙◌, subst, arith}
 use Rattle.std.specs.Prelude.{if◌then◌else◌}
 use Rattle.std.proofs.lemmas.Bool.{cases_lt}
 use Rattle.abc_text.specs.declared.lexical.TokenKind.{TokenKind}
@@ -10,7 +10,7 @@ use Rattle.abc_text.specs.declared.lexical.Next.TheVariants.{Good}
 use Rattle.abc_text.specs.declared.lexical.Token.{Token}
 use Rattle.abc_text.specs.declared.lexical.Fault.{Fault}
 use Rattle.abc_text.specs.Tokens.{skip, next, greatest, ends_operand, is_sign, stands_after, spelled, left, IsNext, IsRead}
-use Rattle.abc_text.specs.Meanings.{spelling, number_of, signs_from, StandsIn}
+use Rattle.abc_text.specs.Meanings.{spelling, number_of, signs_from}
 use Rattle.abc_text.specs.Laws.{EndsWithSign, NumbersFit}
 use Rattle.abc_text.proofs.Forward.{good_within}
 use Rattle.abc_text.proofs.Alone.{token_alone}
@@ -55,7 +55,7 @@ at_most Sign n h = by (cases_lt n (2 ^ 63))
     by (inr le) = inr (omega arith, refl)
 
 -- the bytes of the next token, as those of the text
-spelled_at : (bytes : List ℕ) (before : Before) (rest : List ℕ) (t : Token) → IsBack rest bytes → IsNext (length bytes) before rest t →
+pub spelled_at : (bytes : List ℕ) (before : Before) (rest : List ℕ) (t : Token) → IsBack rest bytes → IsNext (length bytes) before rest t →
     spelling bytes t ≡ spelled rest t
 spelled_at bytes before rest t back here =
     ap (take t.len) (back_at t.place (skip rest) bytes (back_back (skip rest) rest bytes (skip_back rest) back) here.place)

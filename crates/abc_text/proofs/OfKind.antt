@@ -1,5 +1,5 @@
 -- What is known of a good token of each kind.
-use Rattle.std.proofs.Common.{◌≡◌, ℕ, zero, suc, ◌+◌, ◌≤◌, ◌<◌, ◌^◌, Bool, true, false, List, [], ◌∷◌, length, drop, Option, Some, None, refl, sym, ap, ◌∙◌, subst, arith, length-take-le, length-drop, leb-true}
+use Rattle.std.proofs.Common.{◌≡◌, ℕ, zero, suc, ◌≤◌, ◌<◌, ◌^◌, Bool, true, false, List, [], ◌∷◌, length, drop, Some, None, refl, sym, ap, ◌∙◌, subst, arith, length-take-le, length-drop, leb-true}
 use Rattle.std.specs.Prelude.{take_while, ◌==◌, nat_le, ◌||◌, if◌then◌else◌}
 use Rattle.std.specs.List.{AllPass, prefix_len}
 use Rattle.std.proofs.lemmas.List.{take_all}
@@ -7,14 +7,12 @@ use Rattle.std.proofs.lemmas.Bool.{eqb-true}
 use Rattle.std.proofs.lemmas.List.Sums.{prefix_len-le-length, prefix_len_passes}
 use Rattle.abc_text.specs.declared.lexical.TokenKind.{TokenKind}
 use Rattle.abc_text.specs.declared.lexical.TokenKind.TheVariants.{Word, Variable, Number, Text, Symbol}
-use Rattle.abc_cause.specs.declared.Cause.{Cause}
-use Rattle.abc_cause.specs.declared.Cause.TheVariants.{BadByte, BadText, LongText, LongName, WideNumber}
 use Rattle.abc_text.specs.declared.lexical.Before.{Before}
 use Rattle.abc_text.specs.declared.lexical.Before.TheVariants.{Open, Operand, Sign}
 use Rattle.abc_text.specs.declared.lexical.Next.{Next}
 use Rattle.abc_text.specs.declared.lexical.Next.TheVariants.{End, Good, Bad}
 use Rattle.abc_text.specs.declared.lexical.Token.{Token}
-use Rattle.abc_text.specs.Tokens.{is_letter, is_digit, is_word_byte, is_symbol, is_quote_mark, is_printable, word_len, variable_token, decimal, greatest, number_token, one_more, text_len, text_value, closed_text, text_token, colon_token, next}
+use Rattle.abc_text.specs.Tokens.{is_digit, is_word_byte, is_quote_mark, is_printable, word_len, decimal, greatest, one_more, text_len, text_value, next}
 use Rattle.abc_text.specs.Meanings.{spelling, StandsIn, number_of, text_at}
 use Rattle.abc_value.specs.declared.limits.TheConstants.{LONGEST_TEXT}
 use Rattle.abc_text.specs.declared.limits.TheConstants.{MOST_NAME}
@@ -41,7 +39,7 @@ number_is : (before : Before) (bytes : List ℕ) → IfNumber before bytes (next
 unfolding IfNumber
 number_is before = by_kind before (IfNumber before) tt (λ _ _ _. tt) (λ _ _ _. tt) (λ _ _ _. tt)
     (λ bs h. (refl, leb-true (decimal (take_while is_digit bs)) (greatest before) h))
-    (λ _ _ _ _ _. tt) (λ _ _ _. tt) (λ _ _ _ _ _. tt)
+    (λ _ _ _ _ _. tt) (λ _ _ _. tt) (λ _ _ _ _. tt)
 
 -- a list that is as long as a run of it is that run
 whole_run : (p : ℕ → Bool) (bs : List ℕ) → length bs ≡ length (take_while p bs) → take_while p bs ≡ bs
@@ -91,7 +89,7 @@ word_is : (before : Before) (bytes : List ℕ) → IfWord bytes (next before byt
 unfolding IfWord
 word_is before = by_kind before IfWord tt (λ _ _ _. tt) (λ b bs h e. is_word (b ∷ bs) h e)
     (λ b bs h e. (omega arith, is_word bs h (omega (arith, e))))
-    (λ _ _. tt) (λ _ _ _ _ _. tt) (λ _ _ _. tt) (λ _ _ _ _ _. tt)
+    (λ _ _. tt) (λ _ _ _ _ _. tt) (λ _ _ _. tt) (λ _ _ _ _. tt)
 
 pub word-stands : (bytes : List ℕ) (t : Token) → StandsIn bytes t → t.kind ≡ Word → IsWord (spelling bytes t)
 unfolding IfWord
@@ -114,7 +112,7 @@ mark_printable b h = by (b == 34) (b == 92) refl refl h
     by false true hc hd h = ap is_printable (eqb-true b 92 hd)
     by false false hc hd h = absurd (let h' : false ≡ true = h in cc)
 
-printable : (escape : Bool) (w : List ℕ) (n : ℕ) → text_len escape w ≡ Some n → AllPass is_printable (text_value escape w)
+pub printable : (escape : Bool) (w : List ℕ) (n : ℕ) → text_len escape w ≡ Some n → AllPass is_printable (text_value escape w)
 printable escape [] n e = absurd (none_some n e)
 printable true (b ∷ w) n e = by (printable false w) (is_quote_mark b) refl e
   where
@@ -145,7 +143,7 @@ text_is : (before : Before) (bytes : List ℕ) → IfText bytes (next before byt
 unfolding IfText
 text_is before = by_kind before IfText tt (λ _ _ _. tt) (λ _ _ _. tt) (λ _ _ _. tt) (λ _ _. tt)
     (λ b bs n e h. (omega arith, record { short = leb-true (length (text_value false bs)) LONGEST_TEXT h; bytes = printable false bs n e }))
-    (λ _ _ _. tt) (λ _ _ _ _ _. tt)
+    (λ _ _ _. tt) (λ _ _ _ _. tt)
 
 pub text-stands : (bytes : List ℕ) (t : Token) → StandsIn bytes t → t.kind ≡ Text → (0 < length (spelling bytes t)) × IsTextValue (text_at bytes t)
 unfolding IfText

@@ -12,7 +12,8 @@ use Rattle.abc_text.specs.declared.lexical.Before.{Before}
 use Rattle.abc_text.specs.declared.lexical.Next.TheVariants.{Good, Bad}
 use Rattle.abc_value.specs.declared.limits.TheConstants.{LONGEST_TEXT}
 use Rattle.abc_text.specs.declared.limits.TheConstants.{MOST_NAME}
-use Rattle.abc_text.specs.Tokens.{is_letter, is_digit, is_word_byte, is_symbol, is_quote_mark, is_printable, word_len, word_token, variable_token, decimal, greatest, number_token, one_more, text_len, text_value, closed_text, text_token, colon_token, next}
+use Rattle.abc_text.specs.Tokens.{is_letter, is_digit, is_word_byte, is_quote_mark, is_printable, word_len, word_token, variable_token, decimal, greatest, number_token, one_more, text_len, text_value, closed_text, text_token, two_token, next}
+use Rattle.abc_text.specs.Words.{is_mark}
 use Rattle.abc_text.specs.Spelling.{IsWordSpelling, IsTextValue, text_spelling, Spellings}
 use Rattle.abc_text.proofs.Forward.{letter_is_word}
 
@@ -38,8 +39,7 @@ word before (b ∷ bs) h =
     else (if b == 36 then variable_token bs
     else (if is_digit b then number_token before (b ∷ bs)
     else (if b == 34 then text_token bs
-    else (if is_symbol b then Good Symbol 1
-    else (if b == 58 then colon_token bs else Bad BadByte)))))) h.0
+    else (if is_mark (b ∷ []) then Good Symbol 1 else two_token (b ∷ bs)))))) h.0
     ∙ ap (λ (n : ℕ). if nat_le n MOST_NAME then Good Word n else Bad LongName) long
     ∙ ap (λ (c : Bool). if c then Good Word (length (b ∷ bs)) else Bad LongName) short
 
@@ -75,8 +75,7 @@ number before (b ∷ bs) some h small =
     else (if dollar i then variable_token bs
     else (if d i then number_token before (b ∷ bs)
     else (if b == 34 then text_token bs
-    else (if is_symbol b then Good Symbol 1
-    else (if b == 58 then colon_token bs else Bad BadByte))))))
+    else (if is_mark (b ∷ []) then Good Symbol 1 else two_token (b ∷ bs))))))
     ∙ ap (λ (ds : List ℕ). if nat_le (decimal ds) (greatest before) then Good Number (length ds) else Bad WideNumber) all
     ∙ ap (λ (c : Bool). if c then Good Number (length (b ∷ bs)) else Bad WideNumber) fits
 

@@ -9,6 +9,7 @@ use Rattle.abc_text.specs.declared.lexical.Before.{Before}
 use Rattle.abc_text.specs.declared.lexical.Before.TheVariants.{Open}
 use Rattle.abc_text.specs.declared.lexical.Next.TheVariants.{Good, Bad}
 use Rattle.abc_text.specs.Tokens.{is_blank, skip_from, skip, token_at, next, stands_after, IsRead}
+use Rattle.abc_text.specs.Words.{mark_at}
 use Rattle.abc_text.specs.Laws.{Piece, text_of, tokens_of, AreSpelled, SpelledIsRead}
 use Rattle.abc_text.proofs.Following.{followed}
 
@@ -19,24 +20,30 @@ bad_good k n e = cc
 no_token : (before : Before) (b : ℕ) (bs : List ℕ) (k : TokenKind) (n : ℕ) (m : ℕ) → b ≡ m → token_at before (m ∷ bs) ≡ Bad BadByte → token_at before (b ∷ bs) ≡ Good k n → ⊥
 no_token before b bs k n m same bad e = bad_good k n (sym bad ∙ ap (λ (x : ℕ). token_at before (x ∷ bs)) (sym same) ∙ e)
 
+bad_at : (before : Before) (m : ℕ) → token_at before (m ∷ []) ≡ Bad BadByte → ((c : ℕ) (cs : List ℕ) → token_at before (m ∷ (c ∷ cs)) ≡ Bad BadByte) →
+    (bs : List ℕ) → token_at before (m ∷ bs) ≡ Bad BadByte
+bad_at before m one more [] = one
+bad_at before m one more (c ∷ cs) = more c cs
+
 blank_none : (before : Before) (b : ℕ) (bs : List ℕ) (k : TokenKind) (n : ℕ) → is_blank b ≡ true → token_at before (b ∷ bs) ≡ Good k n → ⊥
+unfolding mark_at
 blank_none before b bs k n blank e = by (b == 32) (b == 9) (b == 13) (b == 10) refl refl refl refl blank
   where
     by : (s t r l : Bool) → (b == 32) ≡ s → (b == 9) ≡ t → (b == 13) ≡ r → (b == 10) ≡ l → (((s || t) || r) || l) ≡ true → ⊥
-    by true t r l hs ht hr hl h = no_token before b bs k n 32 (eqb-true b 32 hs) refl e
-    by false true r l hs ht hr hl h = no_token before b bs k n 9 (eqb-true b 9 ht) refl e
-    by false false true l hs ht hr hl h = no_token before b bs k n 13 (eqb-true b 13 hr) refl e
-    by false false false true hs ht hr hl h = no_token before b bs k n 10 (eqb-true b 10 hl) refl e
+    by true t r l hs ht hr hl h = no_token before b bs k n 32 (eqb-true b 32 hs) (bad_at before 32 refl (λ c cs. refl) bs) e
+    by false true r l hs ht hr hl h = no_token before b bs k n 9 (eqb-true b 9 ht) (bad_at before 9 refl (λ c cs. refl) bs) e
+    by false false true l hs ht hr hl h = no_token before b bs k n 13 (eqb-true b 13 hr) (bad_at before 13 refl (λ c cs. refl) bs) e
+    by false false false true hs ht hr hl h = no_token before b bs k n 10 (eqb-true b 10 hl) (bad_at before 10 refl (λ c cs. refl) bs) e
     by false false false false hs ht hr hl h = (let h' : false ≡ true = h in cc)
 
 -- so nothing is skipped before a token
 skip-token : (before : Before) (bytes : List ℕ) (k : TokenKind) (n : ℕ) → next before bytes ≡ Good k n → skip bytes ≡ bytes
-unfolding next skip
+unfolding next skip mark_at
 skip-token before [] k n e = refl
 skip-token before (b ∷ bs) k n e = by (b == 35) (is_blank b) refl refl
   where
     by : (c d : Bool) → (b == 35) ≡ c → is_blank b ≡ d → (if c then skip_from true bs else (if d then skip_from false bs else b ∷ bs)) ≡ b ∷ bs
-    by true d hc hd = absurd (no_token before b bs k n 35 (eqb-true b 35 hc) refl e)
+    by true d hc hd = absurd (no_token before b bs k n 35 (eqb-true b 35 hc) (bad_at before 35 refl (λ c cs. refl) bs) e)
     by false true hc hd = absurd (blank_none before b bs k n hd e)
     by false false hc hd = refl
 

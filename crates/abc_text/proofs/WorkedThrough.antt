@@ -1,11 +1,12 @@
 -- The worked examples compute.
 use Rattle.std.proofs.Common.{◌≡◌, true, refl, arith}
 use Rattle.std.proofs.lemmas.List.Elements.{All-replicate}
-use Rattle.abc_text.specs.Tokens.{is_word_byte, is_printable, skip, is_keyword, is_literal_word, number_token, text_token, next, stands_after}
-use Rattle.abc_text.specs.Worked.{WorkedTokens, WorkedLimits}
+use Rattle.abc_text.specs.Tokens.{is_word_byte, is_printable, skip, number_token, text_token, next, stands_after}
+use Rattle.abc_text.specs.Words.{keyword_at, mark_at}
+use Rattle.abc_text.specs.Worked.{WorkedTokens, WorkedLimits, WorkedWords}
 
 pub worked_tokens : WorkedTokens
-unfolding skip is_keyword is_literal_word number_token text_token next stands_after
+unfolding skip keyword_at mark_at number_token text_token next stands_after
 worked_tokens = record {
   header = (record { token = refl; place = refl }, (record { token = refl; place = refl }, (record { token = refl; place = refl }, refl)));
   close = (record { token = refl; place = refl }, (record { token = refl; place = refl }, (record { token = refl; place = refl }, (record { token = refl; place = refl }, refl))));
@@ -19,7 +20,7 @@ worked_tokens = record {
 }
 
 pub worked_limits : WorkedLimits
-unfolding skip is_keyword is_literal_word number_token text_token next stands_after
+unfolding skip keyword_at mark_at number_token text_token next stands_after
 worked_limits = record {
   name = (record { token = refl; place = refl }, refl);
   long_name = (refl, refl);
@@ -38,3 +39,6 @@ worked_limits = record {
   wide_number = (refl, refl);
   wide_signed = (record { token = refl; place = refl }, (refl, refl));
 }
+
+pub worked_words : WorkedWords
+worked_words = record { keywords = refl; marks = refl }

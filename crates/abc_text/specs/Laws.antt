@@ -9,7 +9,10 @@ use Rattle.abc_text.specs.declared.lexical.Next.TheVariants.{Good}
 use Rattle.abc_text.specs.declared.lexical.Token.{Token}
 use Rattle.abc_text.specs.declared.lexical.Fault.{Fault}
 use Rattle.abc_text.specs.Tokens.{is_blank, is_word_byte, is_digit, next, stands_after, Reads, AreTokens, IsLexical}
-use Rattle.abc_text.specs.Meanings.{StandsIn, number_of, token_signs, named, names_behind, HasName}
+use Rattle.abc_text.specs.declared.words.Keyword.{Keyword}
+use Rattle.abc_text.specs.declared.words.Mark.{Mark}
+use Rattle.abc_text.specs.Words.{keyword_at, mark_at, is_mark, keyword_text, mark_text}
+use Rattle.abc_text.specs.Meanings.{spelling, StandsIn, number_of, token_signs, named, names_behind, HasName}
 
 -- ---- one reading
 -- A text is tokens to its end, or tokens and then a first bad one; and it is so in one way.
@@ -96,3 +99,13 @@ NamesStay =
 abbrev pub NamedHaveNumbers : Type 0
 NamedHaveNumbers =
     (words : List (List ℕ)) (bytes : List ℕ) (ts : List Token) → All (λ t. HasName (names_behind words bytes ts) (named bytes t)) ts
+
+-- ---- keywords and symbols
+pub record WordsAreSpelled : Type 0 where
+  -- each keyword and each symbol has one spelling, and is found by it
+  pub keyword : (k : Keyword) → keyword_at (keyword_text k) ≡ Some k
+  pub keyword_back : (word : List ℕ) (k : Keyword) → keyword_at word ≡ Some k → keyword_text k ≡ word
+  pub mark : (m : Mark) → mark_at (mark_text m) ≡ Some m
+  pub mark_back : (symbol : List ℕ) (m : Mark) → mark_at symbol ≡ Some m → mark_text m ≡ symbol
+  -- each symbol of a text is one of the table
+  pub symbols : (bytes : List ℕ) (t : Token) → StandsIn bytes t → t.kind ≡ Symbol → is_mark (spelling bytes t) ≡ true

@@ -8,7 +8,8 @@ use Rattle.abc_text.specs.declared.lexical.Before.{Before}
 use Rattle.abc_text.specs.declared.lexical.Before.TheVariants.{Open}
 use Rattle.abc_text.specs.declared.lexical.Next.TheVariants.{Good}
 use Rattle.abc_text.specs.declared.lexical.Token.{Token}
-use Rattle.abc_text.specs.Tokens.{next, decimal, text_value, is_keyword, is_sign, stands_after}
+use Rattle.abc_text.specs.Tokens.{next, decimal, text_value, is_sign, stands_after}
+use Rattle.abc_text.specs.Words.{is_keyword}
 
 -- the bytes of a token of the text
 abbrev pub spelling : List ℕ → Token → List ℕ

@@ -1,8 +1,7 @@
 -- The tokens of a text, the first layer of the concrete text. Bytes are numbers; the comment at each
 -- test shows the characters that it is of.
-use Rattle.std.specs.Prelude.{◌≡◌, ℕ, ◌+◌, ◌-◌, ◌*◌, ◌==◌, Bool, true, false, not, ◌||◌, ◌&&◌, nat_le, if◌then◌else◌, List, [], ◌∷◌, length, take_while, take, drop, fold, codes, Option, Some, None}
-use Rattle.std.specs.List.{list_any}
-use Rattle.std.specs.Str.{bytes_eq}
+use Rattle.std.specs.Prelude.{◌≡◌, ℕ, ◌+◌, ◌-◌, ◌*◌, ◌==◌, Bool, true, false, not, ◌||◌, ◌&&◌, nat_le, if◌then◌else◌, List, [], ◌∷◌, length, take_while, take, drop, fold, Option, Some, None}
+use Rattle.std.specs.Option.{option_map_or}
 use Rattle.abc_text.specs.declared.lexical.TokenKind.{TokenKind}
 use Rattle.abc_text.specs.declared.lexical.TokenKind.TheVariants.{Word, Variable, Number, Text, Symbol}
 use Rattle.abc_cause.specs.declared.Cause.{Cause}
@@ -15,6 +14,7 @@ use Rattle.abc_text.specs.declared.lexical.Next.{Next}
 use Rattle.abc_text.specs.declared.lexical.Next.TheVariants.{End, Good, Bad}
 use Rattle.abc_text.specs.declared.lexical.Token.{Token}
 use Rattle.abc_text.specs.declared.lexical.Fault.{Fault}
+use Rattle.abc_text.specs.Words.{keyword_at, mark_at, is_mark, is_literal, closes_operand, is_dash}
 
 -- ---- bytes
 -- space, tab, carriage return, line feed
@@ -32,10 +32,6 @@ is_digit b = nat_le 48 b && nat_le b 57
 -- a letter, a digit or _
 abbrev pub is_word_byte : ℕ → Bool
 is_word_byte b = is_letter b || is_digit b || (b == 95)
-
--- ( ) * + , - . are 40 to 46; then ; < = ? @ [ ] { | }
-abbrev pub is_symbol : ℕ → Bool
-is_symbol b = (nat_le 40 b && nat_le b 46) || (nat_le 59 b && nat_le b 61) || (nat_le 63 b && nat_le b 64) || (b == 91) || (b == 93) || (nat_le 123 b && nat_le b 125)
 
 -- " and \
 abbrev pub is_quote_mark : ℕ → Bool
@@ -57,23 +53,6 @@ unfoldable pub skip : List ℕ → List ℕ
 skip bytes = skip_from false bytes
 
 -- ---- words
-abbrev pub keywords : List (List ℕ)
-keywords =
-    codes "abc" ∷ (codes "and" ∷ (codes "comp" ∷ (codes "def" ∷ (codes "false" ∷ (codes "ff" ∷ (codes "free"
-    ∷ (codes "in" ∷ (codes "none" ∷ (codes "not" ∷ (codes "or" ∷ (codes "run" ∷ (codes "set" ∷ (codes "show"
-    ∷ (codes "size" ∷ (codes "this" ∷ (codes "true" ∷ (codes "tt" ∷ (codes "union" ∷ (codes "when"
-    ∷ (codes "without" ∷ []))))))))))))))))))))
-
-unfoldable pub is_keyword : List ℕ → Bool
-is_keyword word = list_any (λ k. bytes_eq k word) keywords
-
--- the keywords that are literals
-abbrev pub literal_words : List (List ℕ)
-literal_words = codes "false" ∷ (codes "none" ∷ (codes "true" ∷ []))
-
-unfoldable pub is_literal_word : List ℕ → Bool
-is_literal_word word = list_any (λ k. bytes_eq k word) literal_words
-
 -- the longest run of the bytes of a word
 abbrev pub word_len : List ℕ → ℕ
 word_len bytes = length (take_while is_word_byte bytes)
@@ -150,21 +129,24 @@ IsLexical WideNumber = Unit {0}
 IsLexical _ = ⊥
 
 -- ---- the next token
--- the two bytes :=, by what stands behind the :
-abbrev pub colon_token : List ℕ → Next
-colon_token [] = Bad BadByte
-colon_token (b ∷ bs) = if b == 61 then Good Symbol 2 else Bad BadByte
+abbrev pub two_token : List ℕ → Next
+two_token [] = Bad BadByte
+two_token (b ∷ []) = Bad BadByte
+two_token (b ∷ (c ∷ bs)) = if is_mark (b ∷ (c ∷ [])) then Good Symbol 2 else Bad BadByte
 
--- the token at the front, by its first byte: a letter, $, a digit, ", a symbol, :
+-- a symbol of one byte, or else of two
+abbrev pub symbol_token : List ℕ → Next
+symbol_token [] = Bad BadByte
+symbol_token (b ∷ bs) = if is_mark (b ∷ []) then Good Symbol 1 else two_token (b ∷ bs)
+
+-- the token at the front, by its first byte: a letter, $, a digit, "; else it is a symbol
 abbrev pub token_at : Before → List ℕ → Next
 token_at before [] = End
 token_at before (b ∷ bs) =
     if is_letter b then word_token (b ∷ bs)
     else (if b == 36 then variable_token bs
     else (if is_digit b then number_token before (b ∷ bs)
-    else (if b == 34 then text_token bs
-    else (if is_symbol b then Good Symbol 1
-    else (if b == 58 then colon_token bs else Bad BadByte)))))
+    else (if b == 34 then text_token bs else symbol_token (b ∷ bs))))
 
 unfoldable pub next : Before → List ℕ → Next
 next before bytes = token_at before bytes
@@ -172,14 +154,14 @@ next before bytes = token_at before bytes
 -- ---- signs
 -- a token that may end an operand: a name, a variable, a number, a text, false, none, true, ) or }
 abbrev pub ends_operand : TokenKind → List ℕ → Bool
-ends_operand Word word = not (is_keyword word) || is_literal_word word
+ends_operand Word word = option_map_or is_literal (keyword_at word) true
 ends_operand Variable spelling = true
 ends_operand Number spelling = true
 ends_operand Text spelling = true
-ends_operand Symbol spelling = bytes_eq spelling (codes ")") || bytes_eq spelling (codes "}")
+ends_operand Symbol spelling = option_map_or closes_operand (mark_at spelling) false
 
 abbrev pub is_minus : TokenKind → List ℕ → Bool
-is_minus Symbol spelling = bytes_eq spelling (codes "-")
+is_minus Symbol spelling = option_map_or is_dash (mark_at spelling) false
 is_minus Word spelling = false
 is_minus Variable spelling = false
 is_minus Number spelling = false

@@ -1,5 +1,5 @@
 -- Worked examples of tokens.
-use Rattle.std.specs.Prelude.{ℕ, List, [], ◌∷◌, Option, Some, codes, replicate}
+use Rattle.std.specs.Prelude.{◌≡◌, ℕ, List, [], ◌∷◌, ◌++◌, flat_map, Option, Some, codes, replicate}
 use Rattle.abc_text.specs.declared.lexical.TokenKind.{TokenKind}
 use Rattle.abc_text.specs.declared.lexical.TokenKind.TheVariants.{Word, Variable, Number, Text, Symbol}
 use Rattle.abc_cause.specs.declared.Cause.{Cause}
@@ -7,6 +7,7 @@ use Rattle.abc_cause.specs.declared.Cause.TheVariants.{BadByte, BadText, LongTex
 use Rattle.abc_text.specs.declared.lexical.Token.{Token}
 use Rattle.abc_text.specs.declared.lexical.Fault.{Fault}
 use Rattle.abc_text.specs.Tokens.{Reads, AreTokens}
+use Rattle.abc_text.specs.Words.{keyword_rows, mark_rows}
 use Rattle.abc_text.specs.Spelling.{IsWordSpelling, IsTextValue, text_spelling}
 
 abbrev pub token_of : TokenKind → ℕ → ℕ → Token
@@ -58,3 +59,11 @@ pub record WorkedLimits : Type 0 where
   pub number : AreTokens (codes "9223372036854775807") (token_of Number 0 19 ∷ [])
   pub wide_number : Reads (codes "9223372036854775808") [] (fault_of 0 WideNumber)
   pub wide_signed : Reads (codes "-9223372036854775809") (token_of Symbol 0 1 ∷ []) (fault_of 1 WideNumber)
+
+-- spelled one behind another, with a blank behind each
+abbrev pub words_of : {A : Type 0} → List (A × List ℕ) → List ℕ
+words_of rows = flat_map (λ row. row.1 ++ codes " ") rows
+
+pub record WorkedWords : Type 0 where
+  pub keywords : words_of keyword_rows ≡ codes "abc and comp def false ff free in none not or run set show size this true tt union when without "
+  pub marks : words_of mark_rows ≡ codes "( ) { } [ ] ; , . @ ? + - * | < = := "

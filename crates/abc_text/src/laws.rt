@@ -1,7 +1,7 @@
 //! Laws of the definitions, each the contract of a function that does nothing.
-ghost use Rattle.abc_text.specs.Laws.{OneReading, SpelledIsRead, TokensStand, FaultsAreLexical, NumbersFit, NamesStay, NamedHaveNumbers};
+ghost use Rattle.abc_text.specs.Laws.{OneReading, SpelledIsRead, TokensStand, FaultsAreLexical, NumbersFit, NamesStay, NamedHaveNumbers, WordsAreSpelled};
 ghost use Rattle.abc_text.specs.Spelling.{Spellings};
-ghost use Rattle.abc_text.specs.Worked.{WorkedTokens, WorkedLimits};
+ghost use Rattle.abc_text.specs.Worked.{WorkedTokens, WorkedLimits, WorkedWords};
 
 /// Each text is tokens to its end, or tokens and then a first bad one, in exactly one way.
 pub fn one_reading()
@@ -51,4 +51,14 @@ pub fn worked_tokens()
 /// Tokens on both sides of their limits.
 pub fn worked_limits()
     ensures { WorkedLimits }
+{}
+
+/// Each keyword and each symbol has one spelling, and each symbol of a text is one of the table.
+pub fn words_are_spelled()
+    ensures { WordsAreSpelled }
+{}
+
+/// The keywords and the symbols by their spellings.
+pub fn worked_words()
+    ensures { WorkedWords }
 {}

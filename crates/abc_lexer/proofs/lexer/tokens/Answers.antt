@@ -1,5 +1,4 @@
 use Rattle.std.proofs.Common.{◌≡◌, None, Some, sym, ◌∙◌}
-use Rattle.abc_text.specs.declared.lexical.Fault.{Fault}
 use Rattle.abc_lexer.proofs.Scans.{fault_read}
 use Rattle.abc_lexer.proofs.lexer.tokens.Goals as goal
 

@@ -3,7 +3,7 @@ use Rattle.abc_pred.specs.Standing.{pred_of}
 use Rattle.abc_grammar.specs.Fronts.{BeginsWithPred, BeginsWithNoPred}
 use Rattle.abc_grammar.proofs.OneText.{fronts_are_one}
 use Rattle.abc_text.specs.Meanings.{AreDifferent}
-use Rattle.abc_parse.proofs.Naming.{behind_different}
+use Rattle.abc_lexemes.proofs.NewWords.{behind_different}
 use Rattle.abc_parse.proofs.whole.parse_pred.Goals as goal
 
 pub returns-in-Ok-clause-different : goal.returns-in-Ok-clause-different

@@ -1,0 +1,4 @@
+pub mod Meant
+pub mod Counted
+pub mod SoFar
+pub mod NewWords

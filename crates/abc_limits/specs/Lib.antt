@@ -1,0 +1,5 @@
+pub mod Written
+pub mod Limiting
+pub mod Rooms
+pub mod Walking
+pub mod FirstLimit

@@ -1,0 +1,5 @@
+pub mod Causes
+mod Holding
+mod Fronts
+mod Verdicts
+mod Texts
