@@ -1,9 +1,9 @@
+use crate::boxed_text::BoxedText;
 use abc_pred::Name;
 use abc_text::{Keyword, Mark};
-use abc_value::ShortText;
 
 /// What a token stands for.
-#[derive(Clone, Copy, Debug)]
+#[derive(Debug, Drop)]
 pub enum Lexeme {
     Keyword(Keyword),
     Mark(Mark),
@@ -14,5 +14,5 @@ pub enum Lexeme {
     /// A number as its digits write it: at most 2^63.
     Number(u64),
     /// A text without its quotes and backslashes.
-    Text(ShortText),
+    Text(BoxedText),
 }

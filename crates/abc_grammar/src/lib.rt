@@ -5,12 +5,14 @@
 //! tokens stand for: the parser reads the same type that the grammar speaks of.
 #![tactic(auto)]
 
+mod boxed_text;
 mod examples;
 mod laws;
 mod lexemes;
 mod limits;
 
 pub use abc_text::{Keyword, Mark};
+pub use boxed_text::BoxedText;
 pub use examples::{
     what_is_no_term, worked_lexemes, worked_limits, worked_orders, worked_refusals, worked_terms,
     worked_texts,

@@ -58,7 +58,7 @@ pub fn read_lexemes<'t>(
                 });
             }
             Found::Good(read) => {
-                let meant = lexeme(read.item, &mut known)?;
+                let meant = lexeme(alloc, read.item, &mut known)?;
                 tokens.push(read.token)?;
                 lexemes.push(meant)?;
                 before = read.after;

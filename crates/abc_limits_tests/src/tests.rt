@@ -6,62 +6,87 @@ use abc_value::{List, NoMemory};
 use std::alloc::Global;
 use std::test::Fail;
 
+/// A lexeme that is no text.
+#[derive(Clone, Copy)]
+enum Word {
+    Keyword(Keyword),
+    Mark(Mark),
+    Name(Name),
+    Number(u64),
+}
+
 /// `abc 1 ;`
-const HEADER: [Lexeme; 3] = [
-    Lexeme::Keyword(Keyword::Abc),
-    Lexeme::Number(1),
-    Lexeme::Mark(Mark::Semicolon),
+const HEADER: [Word; 3] = [
+    Word::Keyword(Keyword::Abc),
+    Word::Number(1),
+    Word::Mark(Mark::Semicolon),
 ];
 
 /// `def a =`
-const DEFINITION: [Lexeme; 3] = [
-    Lexeme::Keyword(Keyword::Def),
-    Lexeme::Name(Name(0)),
-    Lexeme::Mark(Mark::Equal),
+const DEFINITION: [Word; 3] = [
+    Word::Keyword(Keyword::Def),
+    Word::Name(Name(0)),
+    Word::Mark(Mark::Equal),
 ];
 
 /// `a`
-const NAME: [Lexeme; 1] = [Lexeme::Name(Name(0))];
+const NAME: [Word; 1] = [Word::Name(Name(0))];
 
 /// `a ,`
-const NAME_COMMA: [Lexeme; 2] = [Lexeme::Name(Name(0)), Lexeme::Mark(Mark::Comma)];
+const NAME_COMMA: [Word; 2] = [Word::Name(Name(0)), Word::Mark(Mark::Comma)];
 
 /// `7 ,`
-const SEVEN_COMMA: [Lexeme; 2] = [Lexeme::Number(7), Lexeme::Mark(Mark::Comma)];
+const SEVEN_COMMA: [Word; 2] = [Word::Number(7), Word::Mark(Mark::Comma)];
 
 /// `- 7 ,`
-const MINUS_SEVEN_COMMA: [Lexeme; 3] = [
-    Lexeme::Mark(Mark::Minus),
-    Lexeme::Number(7),
-    Lexeme::Mark(Mark::Comma),
+const MINUS_SEVEN_COMMA: [Word; 3] = [
+    Word::Mark(Mark::Minus),
+    Word::Number(7),
+    Word::Mark(Mark::Comma),
 ];
 
-const COMP: [Lexeme; 1] = [Lexeme::Keyword(Keyword::Comp)];
+const COMP: [Word; 1] = [Word::Keyword(Keyword::Comp)];
 
-const SET: [Lexeme; 1] = [Lexeme::Keyword(Keyword::Set)];
+const SET: [Word; 1] = [Word::Keyword(Keyword::Set)];
 
-const ROUND: [Lexeme; 1] = [Lexeme::Mark(Mark::OpenRound)];
+const ROUND: [Word; 1] = [Word::Mark(Mark::OpenRound)];
 
-const SQUARE: [Lexeme; 1] = [Lexeme::Mark(Mark::OpenSquare)];
+const SQUARE: [Word; 1] = [Word::Mark(Mark::OpenSquare)];
 
-const CURLY: [Lexeme; 1] = [Lexeme::Mark(Mark::OpenCurly)];
+const CURLY: [Word; 1] = [Word::Mark(Mark::OpenCurly)];
 
-const END_ROUND: [Lexeme; 1] = [Lexeme::Mark(Mark::CloseRound)];
+const END_ROUND: [Word; 1] = [Word::Mark(Mark::CloseRound)];
 
-const END_CURLY: [Lexeme; 1] = [Lexeme::Mark(Mark::CloseCurly)];
+const END_CURLY: [Word; 1] = [Word::Mark(Mark::CloseCurly)];
 
-const COMMA: [Lexeme; 1] = [Lexeme::Mark(Mark::Comma)];
+const COMMA: [Word; 1] = [Word::Mark(Mark::Comma)];
 
-const AT: [Lexeme; 1] = [Lexeme::Mark(Mark::At)];
+const AT: [Word; 1] = [Word::Mark(Mark::At)];
 
-const DOT: [Lexeme; 1] = [Lexeme::Mark(Mark::Dot)];
+const DOT: [Word; 1] = [Word::Mark(Mark::Dot)];
 
 /// A piece of a program, so many times.
-struct Piece<'a>(&'a [Lexeme], usize);
+struct Piece<'a>(&'a [Word], usize);
+
+fn lexeme(word: Word) -> Lexeme {
+    match word {
+        Word::Keyword(keyword) => Lexeme::Keyword(keyword),
+        Word::Mark(mark) => Lexeme::Mark(mark),
+        Word::Name(name) => Lexeme::Name(name),
+        Word::Number(number) => Lexeme::Number(number),
+    }
+}
+
+fn put_all(tokens: &mut List<Lexeme>, words: &[Word]) -> Result<(), NoMemory> {
+    for word in words {
+        tokens.push(lexeme(*word))?;
+    }
+    Ok(())
+}
 
 fn put(tokens: &mut List<Lexeme>, piece: &Piece<'_>) -> Result<(), NoMemory> {
     for _ in 0..piece.1 {
-        tokens.extend_from_slice(piece.0)?;
+        put_all(tokens, piece.0)?;
     }
     Ok(())
 }
@@ -69,7 +94,7 @@ fn put(tokens: &mut List<Lexeme>, piece: &Piece<'_>) -> Result<(), NoMemory> {
 /// The first limit of a header and these pieces.
 fn limit(alloc: Global, pieces: &[Piece<'_>]) -> Result<Limit, NoMemory> {
     let mut tokens = List::new(alloc);
-    tokens.extend_from_slice(&HEADER)?;
+    put_all(&mut tokens, &HEADER)?;
     for piece in pieces {
         put(&mut tokens, piece)?;
     }

@@ -97,7 +97,7 @@ impl<'t> Parser<'t> {
         match first {
             Lexeme::Text(text) => {
                 self.rest = more;
-                Ok(text_scalar(text))
+                Ok(text_scalar(text.text()))
             }
             _ => Err(Stop::Refused(Cause::Syntax)),
         }
