@@ -10,7 +10,7 @@ use Rattle.abc_steps.specs.Turns.{IsTurn, SaysStep, speakers_from}
 use Rattle.abc_steps.specs.TurnLaws.{AlikeMulticasts, AlikeTurns}
 use Rattle.abc_steps.proofs.Alike.{outs_alike, ins_alike, after, after_alike, speaks_alike, hears_alike, heard_interface}
 
-alike_length : (S S' : System) → AreAlike S S' → length S ≡ length S'
+pub alike_length : (S S' : System) → AreAlike S S' → length S ≡ length S'
 alike_length [] [] a = refl
 alike_length [] (D ∷ T) a = elim a [ ]
 alike_length (C ∷ S) [] a = elim a [ ]
@@ -82,7 +82,7 @@ alike_silent defs (C ∷ S) (D ∷ S') a s =
     (alike_silent defs S S' a.1 (All-tail (λ E. outs defs E ≡ 0) C S s))
 
 -- ---- the rule of places
-turn_alike : (defs : Definitions) (turn : ℕ) (S S' : System) (c : Choice) (l : Label) → AreAlike S S' → IsTurn defs S turn c l → IsTurn defs S' turn c l
+pub turn_alike : (defs : Definitions) (turn : ℕ) (S S' : System) (c : Choice) (l : Label) → AreAlike S S' → IsTurn defs S turn c l → IsTurn defs S' turn c l
 turn_alike defs turn S S' c l a t = record {
   speaker = subst (λ (xs : List ℕ). slice_get xs (turn % length xs) ≡ Some c.sender) (speakers_alike defs 0 S S' a) t.speaker;
   output = λ D at.

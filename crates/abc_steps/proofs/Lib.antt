@@ -4,4 +4,7 @@ pub mod Hearers
 pub mod Cases
 pub mod Turns
 pub mod OneRun
+pub mod Rows
+pub mod RowTurns
 pub mod TurnExamples
+pub mod RowExamples

@@ -17,7 +17,7 @@ use Rattle.abc_steps.proofs.Hearers.{rule_placed}
 use Rattle.abc_steps.proofs.Turns.{one_item}
 
 -- a choice that computes to the one by the rule
-by_rule : (defs : Definitions) (S : System) (turn sender place : ℕ) (C : Component) (l : Label) → slice_get (speakers defs S) (turn % length (speakers defs S)) ≡ Some sender →
+pub by_rule : (defs : Definitions) (S : System) (turn sender place : ℕ) (C : Component) (l : Label) → slice_get (speakers defs S) (turn % length (speakers defs S)) ≡ Some sender →
     slice_get S sender ≡ Some C → place ≡ turn % outs defs C → IsTurn defs S turn (choice sender place (hearers_from defs sender l turn 0 S)) l
 by_rule defs S turn sender place C l speaks at is = record {
   speaker = speaks;

@@ -6,4 +6,7 @@
 
 mod laws;
 
-pub use laws::{alike_systems_run_alike, turns_are_runs, turns_fix_the_run, worked_turns};
+pub use laws::{
+    alike_systems_have_the_same_rows, alike_systems_run_alike, rows_are_runs, turn_rows_are_turns,
+    turns_are_runs, turns_fix_the_run, worked_rows, worked_turns,
+};
