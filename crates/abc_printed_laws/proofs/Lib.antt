@@ -1,0 +1,15 @@
+pub mod Parts
+pub mod Listed
+pub mod Levels
+pub mod Literals
+pub mod Operands
+pub mod Exprs
+pub mod Preds
+pub mod Processes
+pub mod Programs
+pub mod Sound
+pub mod Values
+pub mod Names
+pub mod NamedTerms
+pub mod NamedPrograms
+pub mod Outputs

@@ -1,0 +1,14 @@
+pub mod Depths
+pub mod Prints
+pub mod Literals
+pub mod Operands
+pub mod Processes
+pub mod Items
+pub mod Programs
+pub mod Sets
+pub mod SetTerms
+pub mod SetPrograms
+pub mod Limits
+pub mod Closes
+pub mod Closings
+pub mod Alone

@@ -1,0 +1,13 @@
+pub mod Numerals
+pub mod Good
+pub mod Alone
+pub mod ReadParts
+pub mod Joined
+pub mod Terms
+pub mod PrintsRead
+pub mod NamesMet
+pub mod TextNames
+pub mod PrintsAccepted
+pub mod Closed
+pub mod LastToken
+pub mod OutputsRead
