@@ -1,0 +1,2 @@
+pub mod TextOf
+pub mod SoloTexts

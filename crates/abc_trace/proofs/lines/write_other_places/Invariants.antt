@@ -1,0 +1,6 @@
+use Rattle.std.proofs.Common.{◌≡◌, ◌++◌, take, flat_map}
+use Rattle.abc_trace.specs.Lines.{behind_comma, place_text}
+use Rattle.abc_trace.proofs.lines.write_other_places.Given as goal
+
+abbrev pub invariant-loop-other : goal.invariant-loop-other
+invariant-loop-other l = l.out ≡ l.initial.out ++ flat_map (behind_comma (place_text l.names)) (take l.other-index l.others)
