@@ -1,5 +1,5 @@
 -- Lists of words that have no row's number of words.
-use Rattle.std.proofs.Common.{◌≡◌, ℕ, ◌≤◌, List, [], ◌∷◌, length, map, None, refl, arith}
+use Rattle.std.proofs.Common.{◌≡◌, ◌≤◌, List, [], ◌∷◌, length, map, None, refl, arith}
 use Rattle.abc_runner.specs.Commands.{Word, command_of}
 
 module _ {X : Type 0} (f : X → Word) where

@@ -1,18 +1,19 @@
--- The table of commands: which words are a command, and which one. All other lists of words are none.
+-- The table of commands: which words are a command, and which one. All other lists of words are
+-- none.
 --
 --   solo LIMIT PICK
 --   run SHAPE LIMIT NODES WORKERS PICK
 --   print
 --   gen NUMBER SIZE SHAPE
-use Rattle.std.specs.Prelude.{ℕ, ◌==◌, ◌&&◌, ◌||◌, Bool, true, false, not, List, [], ◌∷◌, length, nat_le, nat_lt, slice_index, Option, Some, None, if◌then◌else◌, codes, is_some, map, String, string_bytes}
-use Rattle.std.specs.Option.{option_map, option_and_then}
+use Rattle.std.specs.Prelude.{ℕ, ◌==◌, ◌&&◌, ◌||◌, Bool, not, List, [], ◌∷◌, length, nat_le, nat_lt, slice_index, Option, Some, None, if◌then◌else◌, codes, is_some, map, String, string_bytes}
 use Rattle.std.specs.Cmp.Lexicographic.{pointwise}
 use Rattle.std.specs.List.{list_all}
 use Rattle.std.specs.Char.{is_ascii_digit}
 use Rattle.std.specs.Str.Parse.{digits_value}
 use Rattle.abc_runner.specs.declared.command.Command.{Command}
-use Rattle.abc_runner.specs.declared.command.Command.TheVariants.{Solo, Other}
-use Rattle.abc_runner.specs.declared.limits.TheConstants.{MOST_LIMIT, MOST_PICK, MOST_NODES, MOST_WORKERS, MOST_NUMBER, LEAST_SIZE, MOST_SIZE}
+use Rattle.abc_runner.specs.declared.command.Command.TheVariants.{Solo, Print, Other}
+use Rattle.abc_trace.specs.declared.limits.TheConstants.{MOST_LIMIT, MOST_PICK, MOST_NODES}
+use Rattle.abc_runner.specs.declared.limits.TheConstants.{MOST_WORKERS, MOST_NUMBER, LEAST_SIZE, MOST_SIZE}
 
 -- the bytes of a word
 abbrev pub Word : Type 0
@@ -33,13 +34,15 @@ is_plain word = nat_lt 0 (length word) && list_all is_ascii_digit word && not (l
 -- the number that a word writes, where it is one from low to high
 abbrev pub number_of : ℕ → ℕ → Word → Option ℕ
 number_of low high word =
-    if is_plain word && nat_le low (digits_value 10 word) && nat_le (digits_value 10 word) high then Some (digits_value 10 word) else None
+    if is_plain word && nat_le low (digits_value 10 word) && nat_le (digits_value 10 word) high
+    then Some (digits_value 10 word) else None
 
 abbrev pub is_number : ℕ → ℕ → Word → Bool
 is_number low high word = is_some (number_of low high word)
 
 abbrev pub is_shape : Word → Bool
-is_shape word = is_name (codes "cluster") word || is_name (codes "ring") word || is_name (codes "tree") word
+is_shape word =
+    is_name (codes "cluster") word || is_name (codes "ring") word || is_name (codes "tree") word
 
 -- ---- the four rows
 abbrev pub solo_of : Option ℕ → Option ℕ → Option Command
@@ -47,20 +50,27 @@ solo_of (Some limit) (Some pick) = Some (Solo limit pick)
 solo_of _ _ = None
 
 abbrev pub solo_row : Word → Word → Word → Option Command
-solo_row name limit pick = if is_name (codes "solo") name then solo_of (number_of 1 MOST_LIMIT limit) (number_of 0 MOST_PICK pick) else None
+solo_row name limit pick =
+    if is_name (codes "solo") name
+    then solo_of (number_of 1 MOST_LIMIT limit) (number_of 0 MOST_PICK pick) else None
+
+abbrev pub print_row : Word → Option Command
+print_row name = if is_name (codes "print") name then Some Print else None
 
 -- the values of a row that is not built yet
 abbrev pub other_where : Bool → Option Command
 other_where b = if b then Some Other else None
 
 abbrev pub command_of : List Word → Option Command
-command_of (name ∷ []) = other_where (is_name (codes "print") name)
+command_of (name ∷ []) = print_row name
 command_of (name ∷ limit ∷ pick ∷ []) = solo_row name limit pick
 command_of (name ∷ number ∷ size ∷ shape ∷ []) =
-    other_where (is_name (codes "gen") name && is_number 0 MOST_NUMBER number && is_number LEAST_SIZE MOST_SIZE size && is_shape shape)
+    other_where (is_name (codes "gen") name && is_number 0 MOST_NUMBER number
+    && is_number LEAST_SIZE MOST_SIZE size && is_shape shape)
 command_of (name ∷ shape ∷ limit ∷ nodes ∷ workers ∷ pick ∷ []) =
-    other_where (is_name (codes "run") name && is_shape shape && is_number 1 MOST_LIMIT limit && is_number 1 MOST_NODES nodes
-    && is_number 1 MOST_WORKERS workers && is_number 0 MOST_PICK pick)
+    other_where (is_name (codes "run") name && is_shape shape && is_number 1 MOST_LIMIT limit
+    && is_number 1 MOST_NODES nodes && is_number 1 MOST_WORKERS workers
+    && is_number 0 MOST_PICK pick)
 command_of _ = None
 
 -- the command of a list of words, by their bytes

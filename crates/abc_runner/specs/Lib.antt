@@ -3,3 +3,4 @@ pub mod Statuses
 pub mod Outcomes
 pub mod Answers
 pub mod Limits
+pub mod Laws

@@ -1,17 +1,22 @@
 -- The limits of a call: what is just within each, and what is just past it.
 use Rattle.std.specs.Prelude.{◌≡◌, [], ◌∷◌, List, Option, Some, None, codes}
 use Rattle.abc_runner.specs.declared.command.Command.{Command}
-use Rattle.abc_runner.specs.declared.command.Command.TheVariants.{Solo, Other}
-use Rattle.abc_runner.specs.declared.limits.TheConstants.{MOST_SOURCE}
+use Rattle.abc_runner.specs.declared.command.Command.TheVariants.{Solo, Print, Other}
+use Rattle.abc_runner.specs.declared.limits.TheConstants.{MOST_SOURCE, MOST_PRODUCT}
 use Rattle.abc_runner.specs.Commands.{Word, command_of}
 
 -- the words `solo LIMIT PICK`
 abbrev pub solo : Word → Word → Option Command
 solo limit pick = command_of (codes "solo" ∷ limit ∷ pick ∷ [])
 
+-- the word `print` with more words behind it
+abbrev pub print : List Word → Option Command
+print more = command_of (codes "print" ∷ more)
+
 -- the words `run ring LIMIT NODES WORKERS PICK`
 abbrev pub run : Word → Word → Word → Word → Option Command
-run limit nodes workers pick = command_of (codes "run" ∷ codes "ring" ∷ limit ∷ nodes ∷ workers ∷ pick ∷ [])
+run limit nodes workers pick =
+    command_of (codes "run" ∷ codes "ring" ∷ limit ∷ nodes ∷ workers ∷ pick ∷ [])
 
 -- the words `gen NUMBER SIZE tree`
 abbrev pub gen : Word → Word → Option Command
@@ -19,13 +24,20 @@ gen number size = command_of (codes "gen" ∷ number ∷ size ∷ codes "tree" �
 
 pub record LimitsOfCommands : Type 0 where
   pub source : MOST_SOURCE ≡ 1048576
+  pub product : MOST_PRODUCT ≡ 1000000
   pub least_solo : solo (codes "1") (codes "0") ≡ Some (Solo 1 0)
   pub greatest_solo : solo (codes "100000") (codes "4294967295") ≡ Some (Solo 100000 4294967295)
   pub solo_limit_0 : solo (codes "0") (codes "0") ≡ None
   pub solo_limit_more : solo (codes "100001") (codes "0") ≡ None
   pub solo_pick_more : solo (codes "1") (codes "4294967296") ≡ None
+  pub print_alone : print [] ≡ Some Print
+  pub print_more : print (codes "1" ∷ []) ≡ None
+  pub print_as_solo : print (codes "1" ∷ codes "0" ∷ []) ≡ None
+  pub print_written_large : command_of (codes "Print" ∷ []) ≡ None
+  pub no_word : command_of [] ≡ None
   pub least_run : run (codes "1") (codes "1") (codes "1") (codes "0") ≡ Some Other
-  pub greatest_run : run (codes "100000") (codes "64") (codes "16") (codes "4294967295") ≡ Some Other
+  pub greatest_run :
+      run (codes "100000") (codes "64") (codes "16") (codes "4294967295") ≡ Some Other
   pub run_limit_0 : run (codes "0") (codes "1") (codes "1") (codes "0") ≡ None
   pub run_limit_more : run (codes "100001") (codes "1") (codes "1") (codes "0") ≡ None
   pub run_nodes_0 : run (codes "1") (codes "0") (codes "1") (codes "0") ≡ None

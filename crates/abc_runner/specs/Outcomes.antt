@@ -1,12 +1,11 @@
 -- What a call of `run` owes its sink, and how the writing of it ends.
-use Rattle.std.specs.Prelude.{ℕ, ◌≡◌, ◌<◌, ◌≤◌, ◌⊎◌, ◌↔◌, List, length, take, Option, Some, None, string_bytes, ⊤}
-use Rattle.std.specs.Io.KnownBytes.{Appends, Consumes}
+use Rattle.std.specs.Prelude.{ℕ, ◌≡◌, ◌<◌, ◌⊎◌, List, length, take, Option, Some, ⊤}
+use Rattle.std.specs.Io.KnownBytes.{Appends}
 use Rattle.abc_io.specs.Devices.{Rose}
 use Rattle.abc_runner.specs.declared.command.Command.{Command}
-use Rattle.abc_runner.specs.declared.command.Command.TheVariants.{Solo, Other}
+use Rattle.abc_runner.specs.declared.command.Command.TheVariants.{Solo, Print}
 use Rattle.abc_runner.specs.declared.status.Status.{Status}
-use Rattle.abc_runner.specs.declared.status.Status.TheVariants.{Done, BadWords, Unbuilt, TooLong, ReadFault, WriteFault, NoMemory}
-use Rattle.abc_runner.specs.declared.limits.TheConstants.{MOST_SOURCE}
+use Rattle.abc_runner.specs.declared.status.Status.TheVariants.{Done, BadWords, Unbuilt, TooMuch, TooLong, Refused, ReadFault, WriteFault, NoMemory}
 use Rattle.abc_runner.specs.Statuses.{line_of}
 
 -- the status where a write fault comes after some bytes of what is due: want of memory alone stays
@@ -14,12 +13,14 @@ abbrev pub cut_short : Status → ℕ → Status
 cut_short NoMemory written = NoMemory
 cut_short _ written = WriteFault written
 
--- The text `due` of the status `whole` was due to a sink. It was written whole, the sink's count of faults is as it was, and
--- the status is that one; or the count rose, a proper front of the text was written, and the status says how much.
+-- The text `due` of the status `whole` was due to a sink. It was written whole, the sink's count of
+-- faults is as it was, and the status is that one; or the count rose, a proper front of the text
+-- was written, and the status says how much.
 abbrev pub Ends : Status → List ℕ → Status → ℕ → ℕ → Option (List ℕ) → Option (List ℕ) → Type 0
 Ends whole due status faults faults' told told' =
     ((status ≡ whole) × (faults' ≡ faults) × Appends told told' due)
-    ⊎ ((written : ℕ) × (status ≡ cut_short whole written) × Rose faults faults' × (written < length due) × Appends told told' (take written due))
+    ⊎ ((written : ℕ) × (status ≡ cut_short whole written) × Rose faults faults'
+    × (written < length due) × Appends told told' (take written due))
 
 -- the line of a refusal was due
 abbrev pub EndsAs : Status → Status → ℕ → ℕ → Option (List ℕ) → Option (List ℕ) → Type 0
@@ -29,22 +30,26 @@ EndsAs refusal = Ends refusal (line_of refusal)
 abbrev pub IsRefusal : Status → Type 0
 IsRefusal BadWords = ⊤
 IsRefusal Unbuilt = ⊤
+IsRefusal (TooMuch limit components) = ⊤
 IsRefusal TooLong = ⊤
+IsRefusal (Refused place c) = ⊤
 IsRefusal ReadFault = ⊤
 IsRefusal _ = ⊥
 
--- the statuses of a call of `solo` whose source was read whole, and whose devices didn't fail
+-- the statuses of a call that read a text whole and whose devices didn't fail
 abbrev pub IsTextStatus : Status → Type 0
 IsTextStatus Done = ⊤
-IsTextStatus Unbuilt = ⊤
+IsTextStatus (TooMuch limit components) = ⊤
+IsTextStatus (Refused place c) = ⊤
 IsTextStatus NoMemory = ⊤
 IsTextStatus _ = ⊥
 
--- the statuses of a call of `solo` that come of its text, which was read whole
-abbrev pub IsOfText : Status → Type 0
-IsOfText Done = ⊤
-IsOfText Unbuilt = ⊤
-IsOfText _ = ⊥
+-- the statuses that come of a text that was read whole
+abbrev pub IsOfWholeText : Status → Type 0
+IsOfWholeText Done = ⊤
+IsOfWholeText (TooMuch limit components) = ⊤
+IsOfWholeText (Refused place c) = ⊤
+IsOfWholeText _ = ⊥
 
 -- the statuses under which the sink may have failed
 abbrev pub IsCut : Status → Type 0
@@ -57,6 +62,8 @@ abbrev pub IfWriteFault : Status → (ℕ → Type 0) → Type 0
 IfWriteFault (WriteFault written) P = P written
 IfWriteFault _ P = ⊤
 
-abbrev pub IsSolo : Option Command → Type 0
-IsSolo (Some (Solo limit pick)) = ⊤
-IsSolo _ = ⊥
+-- a command that reads the source
+abbrev pub ReadsText : Option Command → Type 0
+ReadsText (Some (Solo limit pick)) = ⊤
+ReadsText (Some Print) = ⊤
+ReadsText _ = ⊥

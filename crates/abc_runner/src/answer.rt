@@ -1,10 +1,13 @@
 use crate::status::Status;
+use abc_value::List;
 
 /// What the words and the source give, before a byte is written.
 #[derive(Drop)]
 pub enum Answer {
     /// What the command prints.
-    Text(String),
+    Text(List<u8>),
     /// A refusal, whose line is due.
     Refusal(Status),
+    /// A refusal whose line has numbers, and this line.
+    Line(Status, List<u8>),
 }

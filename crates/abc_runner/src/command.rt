@@ -2,17 +2,18 @@ ghost use Rattle.std.specs.Prelude.{◌≡◌, ◌<◌, ◌≤◌, ◌^◌, true
 ghost use Rattle.std.specs.List.{list_all};
 ghost use Rattle.std.specs.Char.{is_ascii_digit};
 ghost use Rattle.std.specs.Str.Parse.{digits_value};
-ghost use Rattle.abc_runner.specs.Commands.{command_in, is_name, is_plain, leads_with_zero, number_of, is_number, is_shape, other_where, solo_row};
+ghost use Rattle.abc_runner.specs.Commands.{command_in, is_name, is_plain, leads_with_zero, number_of, is_number, is_shape, other_where, print_row, solo_row};
 
-use crate::limits::{
-    LEAST_SIZE, MOST_LIMIT, MOST_NODES, MOST_NUMBER, MOST_PICK, MOST_SIZE, MOST_WORKERS,
-};
+use crate::limits::{LEAST_SIZE, MOST_NUMBER, MOST_SIZE, MOST_WORKERS};
+use abc_trace::{MOST_LIMIT, MOST_NODES, MOST_PICK};
 
 /// What the words after the program's name ask for.
 #[derive(Clone, Copy, Debug, PartialEq, Eq)]
 pub enum Command {
     /// The run by the calculus alone, of at most `limit` numbers; `pick` chooses among the moves.
     Solo { limit: u32, pick: u64 },
+    /// The canonical text.
+    Print,
     /// Another row of the table of commands.
     Other,
 }
@@ -23,7 +24,7 @@ impl Command {
         ensures { result ≡ command_in words.now }
     {
         match words {
-            [name] => other(is_name(name.as_str(), "print")),
+            [name] => print(name.as_str()),
             [name, limit, pick] => solo(name.as_str(), limit.as_str(), pick.as_str()),
             [name, number, size, shape] => other(
                 is_name(name.as_str(), "gen")
@@ -41,6 +42,16 @@ impl Command {
             ),
             _ => None,
         }
+    }
+}
+
+fn print(name: &str) -> Option<Command>
+    ensures { result ≡ print_row name.now }
+{
+    if is_name(name, "print") {
+        Some(Command::Print)
+    } else {
+        None
     }
 }
 

@@ -3,14 +3,14 @@
 
 mod answer;
 mod command;
-mod first;
 mod laws;
 mod limits;
 mod status;
+mod text;
 mod top;
 
 pub use command::Command;
-pub use laws::limits_of_commands;
+pub use laws::{answers_are_one, limits_of_commands, solo_in_its_own_words};
 pub use limits::MOST_SOURCE;
 pub use status::Status;
 pub use top::{Outcome, run};

@@ -3,14 +3,8 @@
 /// The most bytes that a source may have.
 pub const MOST_SOURCE: usize = 1_048_576;
 
-/// The greatest number limit of a run. The least is 1.
-pub const MOST_LIMIT: u64 = 100_000;
-
-/// The greatest pick. The least is 0.
-pub const MOST_PICK: u64 = 4_294_967_295;
-
-/// The most sequencing nodes of a network. The least is 1.
-pub const MOST_NODES: u64 = 64;
+/// The greatest limit times the number of components.
+pub const MOST_PRODUCT: u64 = 1_000_000;
 
 /// The most workers of a network. The least is 1.
 pub const MOST_WORKERS: u64 = 16;

@@ -5,16 +5,15 @@ ghost use Rattle.abc_io.specs.Whole.{HasRead};
 ghost use Rattle.abc_runner.specs.Commands.{command_in};
 ghost use Rattle.abc_runner.specs.Statuses.{line_of};
 ghost use Rattle.abc_runner.specs.declared.answer.Answer.{Answer};
-ghost use Rattle.abc_runner.specs.Outcomes.{Ends, EndsAs, IfWriteFault, IsCut, IsRefusal, IsSolo, IsTextStatus, cut_short};
-ghost use Rattle.abc_runner.specs.Answers.{whole_of, due_of, IsAnswer, IsSoloAnswer, IsTextAnswer};
+ghost use Rattle.abc_runner.specs.Outcomes.{Ends, EndsAs, IfWriteFault, IsCut, IsOfWholeText, IsRefusal, IsTextStatus, ReadsText, cut_short};
+ghost use Rattle.abc_runner.specs.Answers.{whole_of, due_of, IsAnswer, IsReadAnswer};
 
 use crate::answer::Answer;
 use crate::command::Command;
-use crate::first::{Stop, read_text, write_trace};
 use crate::limits::MOST_SOURCE;
 use crate::status::Status;
+use crate::text::text_answer;
 use abc_io::{ReadRefusal, Sink, Source, read_all, write_whole};
-use abc_value::NoMemory;
 use std::alloc::Global;
 
 /// How a call of `run` ended.
@@ -32,6 +31,13 @@ pub fn run<S: Source, K: Sink>(
     source: &mut S,
     sink: &mut K,
 ) -> Outcome
+    // What the words and the source give, table by table, and how the writing of it ends.
+    ensures answers { (answer : Answer)
+        × IsAnswer (command_in words.now) answer
+        (S.fault_count source.old) (S.fault_count source.new) (S.left source.old) (S.left source.new)
+        × Ends (whole_of answer) (due_of answer) result.status
+        (K.fault_count sink.old) (K.fault_count sink.new) (K.told sink.old) (K.told sink.new) }
+
     // The words. Of words that are no command, or a command that is not built, nothing is read.
     ensures bad_words { command_in words.now ≡ None
         → EndsAs Status.BadWords result.status
@@ -40,23 +46,22 @@ pub fn run<S: Source, K: Sink>(
     ensures other { command_in words.now ≡ Some Command.Other
         → EndsAs Status.Unbuilt result.status
         (K.fault_count sink.old) (K.fault_count sink.new) (K.told sink.old) (K.told sink.new) }
-    ensures unread { IsSolo (command_in words.now) ⊎ (source.new ≡ source.old) }
+    ensures other_only { result.status ≡ Status.Unbuilt → command_in words.now ≡ Some Command.Other }
+    ensures unread { ReadsText (command_in words.now) ⊎ (source.new ≡ source.old) }
 
     // The source.
     ensures read_fault { result.status ≡ Status.ReadFault
-        → IsSolo (command_in words.now) × Rose (S.fault_count source.old) (S.fault_count source.new) }
-    ensures too_long_only { result.status ≡ Status.TooLong → IsSolo (command_in words.now) }
-    ensures too_long { IsSolo (command_in words.now)
+        → ReadsText (command_in words.now) × Rose (S.fault_count source.old) (S.fault_count source.new) }
+    ensures too_long_only { result.status ≡ Status.TooLong → ReadsText (command_in words.now) }
+    ensures too_long { ReadsText (command_in words.now)
         → HasRead (S.left source.old) (S.left source.new) (λ read.
         (result.status ≡ Status.TooLong → MOST_SOURCE < length read)
         × (MOST_SOURCE < length read → EndsAs Status.TooLong result.status
         (K.fault_count sink.old) (K.fault_count sink.new) (K.told sink.old) (K.told sink.new))) }
-    ensures done { result.status ≡ Status.Done
-        → IsSolo (command_in words.now) × IsAtEnd (S.left source.new) }
-    ensures unbuilt { result.status ≡ Status.Unbuilt
-        → IsSolo (command_in words.now) → IsAtEnd (S.left source.new) }
+    ensures whole_text { IsOfWholeText result.status
+        → ReadsText (command_in words.now) × IsAtEnd (S.left source.new) }
     ensures source_sound { (S.fault_count source.new ≡ S.fault_count source.old)
-        ⊎ (IsSolo (command_in words.now) × EndsAs Status.ReadFault result.status
+        ⊎ (ReadsText (command_in words.now) × EndsAs Status.ReadFault result.status
         (K.fault_count sink.old) (K.fault_count sink.new) (K.told sink.old) (K.told sink.new)) }
 
     // The sink. What was due is that of an answer that the words and the source give: the line of
@@ -73,12 +78,11 @@ pub fn run<S: Source, K: Sink>(
         × (written < length (due_of answer))
         × Appends (K.told sink.old) (K.told sink.new) (take written (due_of answer))) }
     ensures no_memory { result.status ≡ Status.NoMemory
-        → IsSolo (command_in words.now) × EndsAs Status.NoMemory result.status
+        → ReadsText (command_in words.now) × EndsAs Status.NoMemory result.status
         (K.fault_count sink.old) (K.fault_count sink.new) (K.told sink.old) (K.told sink.new) }
 
-    // With no fault, a source of at most the allowed bytes gives a text, or a form of it is not
-    // built yet.
-    ensures complete { IsSolo (command_in words.now)
+    // With no fault, a source of at most the allowed bytes gives a text or the line of its refusal.
+    ensures complete { ReadsText (command_in words.now)
         → ¬ (Rose (S.fault_count source.old) (S.fault_count source.new))
         → ¬ (Rose (K.fault_count sink.old) (K.fault_count sink.new))
         → HasRead (S.left source.old) (S.left source.new) (λ read.
@@ -103,8 +107,9 @@ fn due(answer: &Answer) -> &[u8]
     ensures { result.now ≡ due_of answer.now }
 {
     match answer {
-        Answer::Text(text) => text.as_bytes(),
-        Answer::Refusal(status) => status.line(),
+        Answer::Text(text) => text.as_slice(),
+        Answer::Refusal(status) => status.fixed_line(),
+        Answer::Line(_, line) => line.as_slice(),
     }
 }
 
@@ -114,6 +119,7 @@ fn whole(answer: &Answer) -> Status
     match answer {
         Answer::Text(_) => Status::Done,
         Answer::Refusal(status) => *status,
+        Answer::Line(status, _) => *status,
     }
 }
 
@@ -129,39 +135,25 @@ fn cut_short(whole: Status, written: usize) -> Status
 fn answer<S: Source>(alloc: Global, words: &[String], source: &mut S) -> Answer
     ensures answers { IsAnswer (command_in words.now) result
         (S.fault_count source.old) (S.fault_count source.new) (S.left source.old) (S.left source.new) }
-    ensures unread { IsSolo (command_in words.now) ⊎ (source.new ≡ source.old) }
+    ensures unread { ReadsText (command_in words.now) ⊎ (source.new ≡ source.old) }
 {
     match Command::read(words) {
         None => Answer::Refusal(Status::BadWords),
         Some(Command::Other) => Answer::Refusal(Status::Unbuilt),
-        Some(Command::Solo { limit, pick }) => solo(alloc, source, limit, pick),
+        Some(command) => read_answer(alloc, source, command),
     }
 }
 
-/// The trace of the source's text, or why there is none.
-fn solo<S: Source>(alloc: Global, source: &mut S, limit: u32, pick: u64) -> Answer
-    ensures { IsSoloAnswer result
+/// The answer to a command that reads the source.
+fn read_answer<S: Source>(alloc: Global, source: &mut S, command: Command) -> Answer
+    requires built { ReadsText (Some command) }
+    ensures { IsReadAnswer command result
         (S.fault_count source.old) (S.fault_count source.new) (S.left source.old) (S.left source.new) }
 {
     match read_all(alloc, source, MOST_SOURCE) {
-        Ok(bytes) => solo_text(alloc, bytes.as_slice(), limit, pick),
+        Ok(bytes) => text_answer(alloc, command, bytes.as_slice()),
         Err(ReadRefusal::Fault) => Answer::Refusal(Status::ReadFault),
         Err(ReadRefusal::TooLong) => Answer::Refusal(Status::TooLong),
         Err(ReadRefusal::NoMemory) => Answer::Refusal(Status::NoMemory),
-    }
-}
-
-/// The trace of a text, whose bytes these are.
-fn solo_text(alloc: Global, bytes: &[u8], limit: u32, pick: u64) -> Answer
-    ensures { IsTextAnswer result }
-{
-    let text = match read_text(alloc, bytes) {
-        Ok(text) => text,
-        Err(Stop::Unbuilt) => return Answer::Refusal(Status::Unbuilt),
-        Err(Stop::NoMemory) => return Answer::Refusal(Status::NoMemory),
-    };
-    match write_trace(alloc, text, limit, pick) {
-        Ok(trace) => Answer::Text(trace),
-        Err(NoMemory) => Answer::Refusal(Status::NoMemory),
     }
 }

@@ -1,3 +1,4 @@
+use abc_cause::{Cause, CheckCause};
 use abc_io::{MemorySink, MemorySource};
 use abc_runner::{Command, Status, run};
 use abc_value::List;
@@ -36,7 +37,7 @@ fn words_are_read(rt: HostRuntime) -> Result<(), Fail> {
         ("solo 10 0", solo(10, 0)),
         ("solo 1 4294967295", solo(1, 4_294_967_295)),
         ("solo 100000 7", solo(100_000, 7)),
-        ("print", Some(Command::Other)),
+        ("print", Some(Command::Print)),
         ("run cluster 1 1 1 0", Some(Command::Other)),
         ("run ring 100000 64 16 4294967295", Some(Command::Other)),
         ("run tree 10 7 4 0", Some(Command::Other)),
@@ -180,6 +181,16 @@ fn devices_fail_in_mid_stream(rt: HostRuntime) -> Result<(), Fail> {
             1,
             1000,
             0,
+            Status::ReadFault,
+            "abc: read fault\n",
+        ),
+        (
+            "gen 2 4 ring",
+            GREETING,
+            64,
+            1,
+            1000,
+            0,
             Status::Unbuilt,
             "abc: not built yet\n",
         ),
@@ -198,10 +209,10 @@ fn devices_fail_in_mid_stream(rt: HostRuntime) -> Result<(), Fail> {
             "abc 1;",
             64,
             0,
-            1000,
-            0,
-            Status::Unbuilt,
-            "abc: not built yet\n",
+            10,
+            3,
+            Status::WriteFault { written: 20 },
+            "abc: refused at 6: N",
         ),
     ] {
         let source = MemorySource::new(list_of(alloc, text)?, piece, failing(alloc, read_fault)?);
@@ -211,86 +222,108 @@ fn devices_fail_in_mid_stream(rt: HostRuntime) -> Result<(), Fail> {
     Ok(())
 }
 
-/// Texts and what `solo 10 0` prints of them after the header line; nothing where the text is none of the first texts.
+const CANONICAL: &str =
+    "abc 1; def A = {{()@([tt]).0}} + B; def B = ?(a=1 and [b<2 or c in {2,1,2}])($x).[n:=(n+1)*2]A; comp z{k=-3;show k;run A|B;}";
+
+const CANONICAL_PRINT: &str =
+    "abc 1;\ndef A = () @ (tt) . 0 + B;\ndef B = ? (a = 1 and [b < 2 or c in {1, 2}]) ($x) . [n := (n + 1) * 2] A;\ncomp z {\n  k = -3;\n  show k;\n  run A | B;\n}\n";
+
+/// Words and texts, the status, and what is written.
 #[test]
-fn texts_are_run(rt: HostRuntime) -> Result<(), Fail> {
+fn texts_are_answered(rt: HostRuntime) -> Result<(), Fail> {
     let alloc = rt.alloc();
-    for (text, trace) in [
-        ("abc 1; comp a { show; run 0; }", "env a {}\nquiet 0\n"),
-        ("abc 01;comp a{show;run 00;}# end", "env a {}\nquiet 0\n"),
+    let check = Cause::Check;
+    for (line, text, status, written) in [
+        ("print", CANONICAL, Status::Done, CANONICAL_PRINT),
+        ("print", CANONICAL_PRINT, Status::Done, CANONICAL_PRINT),
         (
-            "abc 1; comp a { x = 007; y = \"q\\\"\\\\\"; show y, z; run 0; }",
-            "env a { x = 7; y = \"q\\\"\\\\\"; }\nquiet 0\n",
+            "solo 1 0",
+            "abc 1;\ndef K = (1) @ (tt) . K;\ncomp a { show; run K; }\n",
+            Status::Done,
+            "abc-trace 1 solo 1 0\n1 a:0 (1) @ (tt) -> -\nenv a {}\nlimit 1\n",
         ),
         (
-            "abc 1; comp a { x = 9223372036854775807; show; run 0; }",
-            "env a { x = 9223372036854775807; }\nquiet 0\n",
-        ),
-        (
-            "abc 1; comp a { show; run (1) @ (x = 1) . 0; } comp b { x = 1; show; run ? (tt) ($v) . [got := $v] 0; }",
-            "1 a:0 (1) @ (x = 1) -> -\nenv a {}\nenv b { x = 1; }\nquiet 1\n",
-        ),
-        (
-            "abc 1; comp a { s = 0; show s; run (7) @ (tt) . [s := 1] 0; } comp b { show; run ? (s = 0) ($v) . [got := $v] 0; } comp c { show; run ? (s = 1) ($v) . [got := $v] 0; }",
-            "1 a:0 (7) @ (tt) -> b:0\nenv a { s = 1; }\nenv b { got = 7; }\nenv c {}\nquiet 1\n",
-        ),
-        (
-            "abc 1; comp a { show; run () @ (tt) . [n := m] [n := 2] [n := m] 0; } comp b { show; run (1, x) @ (tt) . 0; } comp c { show; run ? (tt) ($v, $w) . [v := $v] [w := $w] 0; }",
-            "1 a:0 () @ (tt) -> -\n2 b:0 (1, none) @ (tt) -> c:0\nenv a {}\nenv b {}\nenv c { v = 1; }\nquiet 2\n",
-        ),
-        (
-            "abc 1; comp a { show; run ? (x = $v) ($v) . [got := $v] 0; } comp b { x = \"t\"; show x; run (\"t\") @ (tt) . 0; } comp c { show; run ? (x = $v) ($v) . 0; }",
-            "1 b:0 (\"t\") @ (tt) -> a:0, c:0\nenv a { got = \"t\"; }\nenv b { x = \"t\"; }\nenv c {}\nquiet 1\n",
-        ),
-        ("", ""),
-        ("abc 1;", ""),
-        ("abc 2; comp a { show; run 0; }", ""),
-        ("abc 1; comp a { show; run {0}; }", ""),
-        ("abc 1; comp a { show; run 0 | 0; }", ""),
-        ("abc 1; comp a { show; run 0 + 0; }", ""),
-        ("abc 1; comp a { show; run 1; }", ""),
-        ("abc 1; comp a { show; run (1) @ ([tt]) . 0; }", ""),
-        ("abc 1; comp a { show; run ((1)) @ (tt) . 0; }", ""),
-        ("abc 1; comp a { show; run (-1) @ (tt) . 0; }", ""),
-        ("abc 1; comp a { show; run ($v) @ (tt) . 0; }", ""),
-        ("abc 1; comp a { show; run (1) @ ($v = 1) . 0; }", ""),
-        ("abc 1; comp a { show; run ? (tt) ($v) . [x := $w] 0; }", ""),
-        ("abc 1; comp a { show; run ? (tt) ($v, $v) . 0; }", ""),
-        ("abc 1; comp a { show; run ? ($w = 1) ($v) . 0; }", ""),
-        ("abc 1; comp a { x = 1; x = 1; show; run 0; }", ""),
-        ("abc 1; comp a { show x, x; run 0; }", ""),
-        ("abc 1; comp a { show; run 0; } comp a { show; run 0; }", ""),
-        ("abc 1; comp tt { show; run 0; }", ""),
-        (
-            "abc 1; comp a { x = 9223372036854775808; show; run 0; }",
+            "solo 10 0",
             "",
+            Status::Refused {
+                place: 0,
+                cause: Cause::Syntax,
+            },
+            "abc: refused at 0: Syntax\n",
         ),
-        ("abc 1; comp a { x = \"open; show; run 0; }", ""),
-        ("abc 1; comp a { show; run 0; } }", ""),
         (
-            "abc 1; comp a { show; run (1, 2, 3, 4, 5, 6, 7, 8, 9) @ (tt) . 0; }",
-            "",
+            "print",
+            "abc 1;",
+            Status::Refused {
+                place: 6,
+                cause: check(CheckCause::NoComponent),
+            },
+            "abc: refused at 6: NoComponent\n",
         ),
         (
-            "abc 1; comp abcdefghijklmnopqrstuvwxyzabcdefg { show; run 0; }",
-            "",
+            "solo 10 0",
+            "abc 1;\ncomp a { show; run ($y) @ (tt) . 0; }",
+            Status::Refused {
+                place: 12,
+                cause: check(CheckCause::OpenVariable),
+            },
+            "abc: refused at 12: OpenVariable\n",
+        ),
+        (
+            "solo 10 0",
+            "abc 1;\ncomp a { show; run (1 @ (tt) . 0; }",
+            Status::Refused {
+                place: 29,
+                cause: Cause::Syntax,
+            },
+            "abc: refused at 29: Syntax\n",
         ),
     ] {
-        let mut due = String::new(alloc);
-        let status = if trace.is_empty() {
-            Status::Unbuilt
-        } else {
-            Status::Done
-        };
-        due.push_str(if trace.is_empty() {
-            "abc: not built yet\n"
-        } else {
-            "abc-trace 1 solo 10 0\n"
-        })?;
-        due.push_str(trace)?;
         let source = MemorySource::new(list_of(alloc, text)?, 4096, failing(alloc, 0)?);
         let sink = MemorySink::new(alloc, 4096, 4096, failing(alloc, 0)?)?;
-        ran(&rt, alloc, "solo 10 0", source, sink, status, due.as_str())?;
+        ran(&rt, alloc, line, source, sink, status, written)?;
+    }
+    Ok(())
+}
+
+/// A text of so many components that do nothing.
+fn idle_components(alloc: Global, count: u32) -> Result<String, Fail> {
+    let mut text = String::from_str(alloc, "abc 1;")?;
+    for number in 0..count {
+        text.push_str(format!(in alloc; "comp c{number}{{show;run 0;}}")?.as_str())?;
+    }
+    Ok(text)
+}
+
+/// The bound on limit and components: at it the program runs, past it it is too much for a run, and not for the print.
+#[test]
+fn limits_are_too_much(rt: HostRuntime) -> Result<(), Fail> {
+    let alloc = rt.alloc();
+    for (line, count, status) in [
+        ("solo 100000 0", 10, Status::Done),
+        (
+            "solo 100000 0",
+            11,
+            Status::TooMuch {
+                limit: 100_000,
+                components: 11,
+            },
+        ),
+        ("print", 11, Status::Done),
+    ] {
+        let text = idle_components(alloc, count)?;
+        let words = words_of(alloc, line)?;
+        let mut source = MemorySource::new(
+            list_of(alloc, text.as_str())?,
+            4096,
+            failing(alloc, 0)?,
+        );
+        let mut sink = MemorySink::new(alloc, 4096, 4096, failing(alloc, 0)?)?;
+        let outcome = run(alloc, words.as_slice(), &mut source, &mut sink);
+        assert_eq!(rt; outcome.status, status, "at {line:?} with {count}");
+        if outcome.status != Status::Done {
+            assert_eq!(rt; sink.written(), "abc: too much: 100000 x 11\n".as_bytes());
+        }
     }
     Ok(())
 }

@@ -4,11 +4,17 @@ use Rattle.abc_runner.proofs.laws.limits_of_commands.Goals as goal
 pub returns : goal.returns
 returns c = record {
   source = refl;
+  product = refl;
   least_solo = refl;
   greatest_solo = refl;
   solo_limit_0 = refl;
   solo_limit_more = refl;
   solo_pick_more = refl;
+  print_alone = refl;
+  print_more = refl;
+  print_as_solo = refl;
+  print_written_large = refl;
+  no_word = refl;
   least_run = refl;
   greatest_run = refl;
   run_limit_0 = refl;
