@@ -1,17 +1,5 @@
-//! Tests of the checks of programs.
+//! Tests of the checks on processes that are deeper than a text allows.
 #![tactic(auto)]
 
 #[cfg(test)]
-mod counts;
-#[cfg(test)]
-mod cycles;
-#[cfg(test)]
 mod deep;
-#[cfg(test)]
-mod names;
-#[cfg(test)]
-mod orders;
-#[cfg(test)]
-mod scopes;
-#[cfg(test)]
-mod words;

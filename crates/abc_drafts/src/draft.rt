@@ -1,19 +1,15 @@
 use crate::mistake::Mistake;
-use crate::terms::Terms;
-use abc_pred::{Name, Operand, Pred};
+use abc_pred::{Expr, Name, Operand, Pred};
 use abc_term::{After, Component, Definition, Process, Program};
-use abc_value::{List, ShortText, Value};
+use abc_value::{List, Scalar, ShortText, Value};
 use std::alloc::Global;
 
-/// A program on its way: its definitions and components so far, what waits to become part of something
-/// greater, and the attributes of the next component.
+/// A program on its way: its definitions and components so far, and the processes that wait to become
+/// part of something greater. The newest of these is taken first.
 #[derive(Drop)]
 pub struct Draft {
     alloc: Global,
-    pub terms: Terms,
     waiting: List<Process>,
-    initial: List<(Name, Value)>,
-    show: List<Name>,
     definitions: List<Definition>,
     components: List<Component>,
 }
@@ -31,17 +27,13 @@ impl Draft {
     pub fn new(alloc: Global) -> Draft {
         Draft {
             alloc,
-            terms: Terms::new(alloc),
             waiting: List::new(alloc),
-            initial: List::new(alloc),
-            show: List::new(alloc),
             definitions: List::new(alloc),
             components: List::new(alloc),
         }
     }
 
-    /// One more process that waits.
-    pub fn put(&mut self, process: Process) -> Result<(), Mistake> {
+    fn put(&mut self, process: Process) -> Result<(), Mistake> {
         self.waiting.push(process)?;
         Ok(())
     }
@@ -59,71 +51,68 @@ impl Draft {
         Ok(boxed)
     }
 
-    /// What follows an action: the updates that wait, and then the newest process.
+    /// The newest process, behind an action without updates.
     fn after(&mut self) -> Result<After, Mistake> {
         let then = self.take_boxed()?;
-        let updates = self.terms.take_updates();
+        let updates = List::new(self.alloc);
         Ok(After { updates, then })
     }
 
+    /// One more process 0 that waits.
     pub fn nil(&mut self) -> Result<(), Mistake> {
         self.put(Process::Nil)
     }
 
+    /// One more call that waits.
     pub fn call(&mut self, name: Name) -> Result<(), Mistake> {
         self.put(Process::Call(name))
     }
 
+    /// The two newest processes, with `+` between them.
     pub fn choice(&mut self) -> Result<(), Mistake> {
         let right = self.take_boxed()?;
         let left = self.take_boxed()?;
         self.put(Process::Choice(left, right))
     }
 
+    /// The two newest processes, with `|` between them.
     pub fn par(&mut self) -> Result<(), Mistake> {
         let right = self.take_boxed()?;
         let left = self.take_boxed()?;
         self.put(Process::Par(left, right))
     }
 
-    /// The newest process, behind this guard.
-    pub fn guard(&mut self, guard: Pred) -> Result<(), Mistake> {
+    /// The newest process, behind the guard `tt`.
+    pub fn guard(&mut self) -> Result<(), Mistake> {
         let then = self.take_boxed()?;
-        self.put(Process::When(guard, then))
+        self.put(Process::When(Pred::True, then))
     }
 
-    /// An output of what waits and then these variables, to those that satisfy the predicate.
-    pub fn output(&mut self, variables: &[Name], pred: Pred) -> Result<(), Mistake> {
+    /// The newest process, behind an output of these variables to all.
+    pub fn output(&mut self, variables: &[Name]) -> Result<(), Mistake> {
         let after = self.after()?;
-        let exprs = self.terms.take_tuple(variables)?;
-        self.put(Process::Output(exprs, pred, after))
+        let mut exprs = List::new(self.alloc);
+        for variable in variables {
+            exprs.push(Expr::Plain(Operand::Var(*variable)))?;
+        }
+        self.put(Process::Output(exprs, Pred::True, after))
     }
 
-    /// An input of these variables.
-    pub fn input(&mut self, variables: &[Name], pred: Pred) -> Result<(), Mistake> {
+    /// The newest process, behind an output of this number to all.
+    pub fn say(&mut self, number: i64) -> Result<(), Mistake> {
+        let after = self.after()?;
+        let value = Value::Scalar(Scalar::Number(number));
+        let mut exprs = List::new(self.alloc);
+        exprs.push(Expr::Plain(Operand::Literal(value)))?;
+        self.put(Process::Output(exprs, Pred::True, after))
+    }
+
+    /// The newest process, behind an input of these variables from all.
+    pub fn input(&mut self, variables: &[Name]) -> Result<(), Mistake> {
         let after = self.after()?;
         let mut bound = List::new(self.alloc);
         bound.extend_from_slice(variables)?;
-        self.put(Process::Input(pred, bound, after))
-    }
-
-    /// One more update of the next action, which gives the variable to the attribute of its name.
-    pub fn update_itself(&mut self, name: Name) -> Result<(), Mistake> {
-        self.terms.put_operand(Operand::Var(name))?;
-        self.terms.update(name)
-    }
-
-    /// An attribute of the next component.
-    pub fn attribute(&mut self, name: Name) -> Result<(), Mistake> {
-        let value = self.terms.take_value();
-        self.initial.push((name, value))?;
-        Ok(())
-    }
-
-    /// An attribute that the next component shows.
-    pub fn shown(&mut self, name: Name) -> Result<(), Mistake> {
-        self.show.push(name)?;
-        Ok(())
+        self.put(Process::Input(Pred::True, bound, after))
     }
 
     /// The newest process is the body of the next definition.
@@ -133,15 +122,13 @@ impl Draft {
         Ok(())
     }
 
-    /// The newest process is that of the next component.
+    /// The newest process is that of the next component, which has no attributes.
     pub fn component(&mut self, name: Name) -> Result<(), Mistake> {
         let run = self.take()?;
-        let initial = std::mem::replace(&mut self.initial, List::new(self.alloc));
-        let show = std::mem::replace(&mut self.show, List::new(self.alloc));
         self.components.push(Component {
             name,
-            initial,
-            show,
+            initial: List::new(self.alloc),
+            show: List::new(self.alloc),
             run,
         })?;
         Ok(())
@@ -151,14 +138,11 @@ impl Draft {
     pub fn program(self, names: u32) -> Result<Program, Mistake> {
         let Draft {
             alloc,
-            terms,
             waiting,
-            initial: _,
-            show: _,
             definitions,
             components,
         } = self;
-        if !waiting.is_empty() || !terms.is_empty() {
+        if !waiting.is_empty() {
             return Err(Mistake::SomethingWaits);
         }
         let names = words_of(alloc, names)?;

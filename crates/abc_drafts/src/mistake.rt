@@ -1,7 +1,7 @@
 use abc_value::NoMemory;
 use std::alloc::{AllocError, AllocFailed};
 
-/// Why a program of a test was not made.
+/// Why a program was not made.
 #[derive(Clone, Copy, Debug)]
 pub enum Mistake {
     NoMemory,

@@ -1,322 +1,125 @@
-use abc_cause::Cause;
+//! The first limit that lists of tokens pass.
 use abc_grammar::{Keyword, Lexeme, Mark};
-use abc_limits::{Limit, first_limit};
+use abc_limits::first_limit;
 use abc_pred::Name;
 use abc_value::{List, NoMemory};
 use std::alloc::Global;
+use std::process::Abort;
 use std::test::Fail;
 
-/// A lexeme that is no text.
-#[derive(Clone, Copy)]
-enum Word {
-    Keyword(Keyword),
-    Mark(Mark),
-    Name(Name),
-    Number(u64),
-}
+// In the tables each line is the tokens behind a header, ` => `, and the first limit that they pass. Tokens
+// stand in pieces, and behind a `*` how often a piece stands. A mark is itself, D, C and S are the keywords
+// `def`, `comp` and `set`, a is a name, and 7 is a number.
 
-/// `abc 1 ;`
-const HEADER: [Word; 3] = [
-    Word::Keyword(Keyword::Abc),
-    Word::Number(1),
-    Word::Mark(Mark::Semicolon),
-];
+/// At most 100 brackets are open.
+const BRACKETS: &str = "{*100 => Within
+{*101 => Passed(103, TooDeep)
+{*50 [*25 (*25 [ => Passed(103, TooDeep)
+{*100 } { => Within
+{*100 } {*2 => Passed(105, TooDeep)";
 
-/// `def a =`
-const DEFINITION: [Word; 3] = [
-    Word::Keyword(Keyword::Def),
-    Word::Name(Name(0)),
-    Word::Mark(Mark::Equal),
-];
+/// A definition and a component have at most 2,048 tokens.
+const TOKENS: &str = "Da= a*2045 => Within
+Da= a*2046 => Passed(2051, TooLarge)
+a*3000 => Within
+Da= a*2045 C a*2047 => Within
+Da= a*2045 C a*2048 => Passed(4099, TooLarge)";
 
-/// `a`
-const NAME: [Word; 1] = [Word::Name(Name(0))];
+/// A tuple has at most eight parts, and each bracket has its own commas; a set has as many as it likes.
+const PARTS: &str = "( a,*7 a ) @ => Within
+( a,*8 a => Passed(20, LongTuple)
+( a,*8 => Within
+( a,*6 ( a,*7 a ) , a , a => Passed(36, LongTuple)
+S ( a,*20 a ) => Within";
 
-/// `a ,`
-const NAME_COMMA: [Word; 2] = [Word::Name(Name(0)), Word::Mark(Mark::Comma)];
+/// A set literal has at most 256 scalars.
+const SCALARS: &str = "{ 7,*255 -7, => Within
+{ 7,*255 -7,*2 => Passed(517, LongSet)
+{ 7,*255 { 7,*255 } => Within";
 
-/// `7 ,`
-const SEVEN_COMMA: [Word; 2] = [Word::Number(7), Word::Mark(Mark::Comma)];
+/// An `@` and a `.` behind a set begin no program.
+const STRAYS: &str = "S ( ) @ => Stray(6)
+S ( a ) . => Stray(7)";
 
-/// `- 7 ,`
-const MINUS_SEVEN_COMMA: [Word; 3] = [
-    Word::Mark(Mark::Minus),
-    Word::Number(7),
-    Word::Mark(Mark::Comma),
-];
+/// Of two limits at one token the first in order is named.
+const TWO_AT_ONE_TOKEN: &str = "Da= {*100 a*1945 { => Passed(2051, TooDeep)
+Da= a*2028 ( a,*8 a => Passed(2051, TooLarge)";
 
-const COMP: [Word; 1] = [Word::Keyword(Keyword::Comp)];
-
-const SET: [Word; 1] = [Word::Keyword(Keyword::Set)];
-
-const ROUND: [Word; 1] = [Word::Mark(Mark::OpenRound)];
-
-const SQUARE: [Word; 1] = [Word::Mark(Mark::OpenSquare)];
-
-const CURLY: [Word; 1] = [Word::Mark(Mark::OpenCurly)];
-
-const END_ROUND: [Word; 1] = [Word::Mark(Mark::CloseRound)];
-
-const END_CURLY: [Word; 1] = [Word::Mark(Mark::CloseCurly)];
-
-const COMMA: [Word; 1] = [Word::Mark(Mark::Comma)];
-
-const AT: [Word; 1] = [Word::Mark(Mark::At)];
-
-const DOT: [Word; 1] = [Word::Mark(Mark::Dot)];
-
-/// A piece of a program, so many times.
-struct Piece<'a>(&'a [Word], usize);
-
-fn lexeme(word: Word) -> Lexeme {
-    match word {
-        Word::Keyword(keyword) => Lexeme::Keyword(keyword),
-        Word::Mark(mark) => Lexeme::Mark(mark),
-        Word::Name(name) => Lexeme::Name(name),
-        Word::Number(number) => Lexeme::Number(number),
+/// The token that a byte of a table stands for.
+fn lexeme_of(byte: u8) -> Lexeme {
+    match byte {
+        b'D' => Lexeme::Keyword(Keyword::Def),
+        b'C' => Lexeme::Keyword(Keyword::Comp),
+        b'S' => Lexeme::Keyword(Keyword::Set),
+        b'a' => Lexeme::Name(Name(0)),
+        b'7' => Lexeme::Number(7),
+        b'(' => Lexeme::Mark(Mark::OpenRound),
+        b')' => Lexeme::Mark(Mark::CloseRound),
+        b'[' => Lexeme::Mark(Mark::OpenSquare),
+        b'{' => Lexeme::Mark(Mark::OpenCurly),
+        b'}' => Lexeme::Mark(Mark::CloseCurly),
+        b',' => Lexeme::Mark(Mark::Comma),
+        b'.' => Lexeme::Mark(Mark::Dot),
+        b'@' => Lexeme::Mark(Mark::At),
+        b'-' => Lexeme::Mark(Mark::Minus),
+        b'=' => Lexeme::Mark(Mark::Equal),
+        _ => Lexeme::Mark(Mark::Semicolon),
     }
 }
 
-fn put_all(tokens: &mut List<Lexeme>, words: &[Word]) -> Result<(), NoMemory> {
-    for word in words {
-        tokens.push(lexeme(*word))?;
+fn put_piece(tokens: &mut List<Lexeme>, piece: &str) -> Result<(), NoMemory> {
+    for byte in piece.as_bytes() {
+        tokens.push(lexeme_of(*byte))?;
     }
     Ok(())
 }
 
-fn put(tokens: &mut List<Lexeme>, piece: &Piece<'_>) -> Result<(), NoMemory> {
-    for _ in 0..piece.1 {
-        put_all(tokens, piece.0)?;
+/// A piece as often as it says.
+fn put_often(tokens: &mut List<Lexeme>, word: &str) -> Result<(), NoMemory> {
+    let (piece, count) = match word.split_once('*') {
+        Some((piece, count)) => (piece, count.parse::<u32>().unwrap_or(0)),
+        None => (word, 1),
+    };
+    for _ in 0..count {
+        put_piece(tokens, piece)?;
     }
     Ok(())
 }
 
-/// The first limit of a header and these pieces.
-fn limit(alloc: Global, pieces: &[Piece<'_>]) -> Result<Limit, NoMemory> {
+/// The tokens of a header and of these pieces.
+fn tokens_of(alloc: Global, pieces: &str) -> Result<List<Lexeme>, NoMemory> {
     let mut tokens = List::new(alloc);
-    put_all(&mut tokens, &HEADER)?;
-    for piece in pieces {
-        put(&mut tokens, piece)?;
+    tokens.push(Lexeme::Keyword(Keyword::Abc))?;
+    tokens.push(Lexeme::Number(1))?;
+    put_piece(&mut tokens, ";")?;
+    for word in pieces.split(' ') {
+        put_often(&mut tokens, word)?;
     }
-    Ok(first_limit(tokens.as_slice()))
+    Ok(tokens)
 }
 
-#[test]
-fn brackets(rt: HostRuntime) -> Result<(), Fail> {
-    let alloc = rt.alloc();
-    let open = limit(alloc, &[Piece(&CURLY, 100)])?;
-    assert!(rt; open == Limit::Within, "100 open");
-    let more = limit(alloc, &[Piece(&CURLY, 101)])?;
-    assert!(rt; more == Limit::Passed(103, Cause::TooDeep), "101 open");
-    let mixed = limit(
-        alloc,
-        &[
-            Piece(&CURLY, 50),
-            Piece(&SQUARE, 25),
-            Piece(&ROUND, 25),
-            Piece(&SQUARE, 1),
-        ],
-    )?;
-    assert!(rt; mixed == Limit::Passed(103, Cause::TooDeep), "mixed");
-    let again = limit(
-        alloc,
-        &[Piece(&CURLY, 100), Piece(&END_CURLY, 1), Piece(&CURLY, 1)],
-    )?;
-    assert!(rt; again == Limit::Within, "closed and opened");
-    let one_more = limit(
-        alloc,
-        &[Piece(&CURLY, 100), Piece(&END_CURLY, 1), Piece(&CURLY, 2)],
-    )?;
-    assert!(rt;
-        one_more == Limit::Passed(105, Cause::TooDeep),
-        "opened twice"
-    );
+/// Wants the first limit of each line of a table.
+fn passes_all(rt: &impl Abort, alloc: Global, table: &str) -> Result<(), Fail> {
+    for line in table.lines() {
+        let (pieces, wanted) = line.split_once(" => ").ok_or("no limit in a line")?;
+        let tokens = tokens_of(alloc, pieces)?;
+        let limit = first_limit(tokens.as_slice());
+        let found = format!(in alloc; "{limit:?}")?;
+        assert!(rt; found.as_str() == wanted, "{found:?} of {line:?}");
+    }
     Ok(())
 }
 
 #[test]
-fn tokens(rt: HostRuntime) -> Result<(), Fail> {
-    let alloc = rt.alloc();
-    let whole = limit(alloc, &[Piece(&DEFINITION, 1), Piece(&NAME, 2045)])?;
-    assert!(rt; whole == Limit::Within, "2,048 tokens");
-    let more = limit(alloc, &[Piece(&DEFINITION, 1), Piece(&NAME, 2046)])?;
-    assert!(rt;
-        more == Limit::Passed(2051, Cause::TooLarge),
-        "2,049 tokens"
-    );
-    let outside = limit(alloc, &[Piece(&NAME, 3000)])?;
-    assert!(rt; outside == Limit::Within, "no definition");
-    let two = limit(
-        alloc,
-        &[
-            Piece(&DEFINITION, 1),
-            Piece(&NAME, 2045),
-            Piece(&COMP, 1),
-            Piece(&NAME, 2047),
-        ],
-    )?;
-    assert!(rt; two == Limit::Within, "a definition and a component");
-    let second = limit(
-        alloc,
-        &[
-            Piece(&DEFINITION, 1),
-            Piece(&NAME, 2045),
-            Piece(&COMP, 1),
-            Piece(&NAME, 2048),
-        ],
-    )?;
-    assert!(rt;
-        second == Limit::Passed(4099, Cause::TooLarge),
-        "a component of 2,049"
-    );
-    Ok(())
+fn limits_alone(rt: HostRuntime) -> Result<(), Fail> {
+    passes_all(&rt, rt.alloc(), BRACKETS)?;
+    passes_all(&rt, rt.alloc(), TOKENS)?;
+    passes_all(&rt, rt.alloc(), PARTS)?;
+    passes_all(&rt, rt.alloc(), SCALARS)
 }
 
 #[test]
-fn parts(rt: HostRuntime) -> Result<(), Fail> {
-    let alloc = rt.alloc();
-    let eight = limit(
-        alloc,
-        &[
-            Piece(&ROUND, 1),
-            Piece(&NAME_COMMA, 7),
-            Piece(&NAME, 1),
-            Piece(&END_ROUND, 1),
-            Piece(&AT, 1),
-        ],
-    )?;
-    assert!(rt; eight == Limit::Within, "eight");
-    let nine = limit(
-        alloc,
-        &[Piece(&ROUND, 1), Piece(&NAME_COMMA, 8), Piece(&NAME, 1)],
-    )?;
-    assert!(rt; nine == Limit::Passed(20, Cause::LongTuple), "nine");
-    let end = limit(alloc, &[Piece(&ROUND, 1), Piece(&NAME_COMMA, 8)])?;
-    assert!(rt; end == Limit::Within, "the end behind eight commas");
-    let inner = limit(
-        alloc,
-        &[
-            Piece(&ROUND, 1),
-            Piece(&NAME_COMMA, 6),
-            Piece(&ROUND, 1),
-            Piece(&NAME_COMMA, 7),
-            Piece(&NAME, 1),
-            Piece(&END_ROUND, 1),
-            Piece(&COMMA, 1),
-            Piece(&NAME, 1),
-            Piece(&COMMA, 1),
-            Piece(&NAME, 1),
-        ],
-    )?;
-    assert!(rt;
-        inner == Limit::Passed(36, Cause::LongTuple),
-        "each bracket has its own commas"
-    );
-    let set = limit(
-        alloc,
-        &[
-            Piece(&SET, 1),
-            Piece(&ROUND, 1),
-            Piece(&NAME_COMMA, 20),
-            Piece(&NAME, 1),
-            Piece(&END_ROUND, 1),
-        ],
-    )?;
-    assert!(rt; set == Limit::Within, "a set of 21");
-    Ok(())
-}
-
-#[test]
-fn scalars(rt: HostRuntime) -> Result<(), Fail> {
-    let alloc = rt.alloc();
-    let whole = limit(
-        alloc,
-        &[
-            Piece(&CURLY, 1),
-            Piece(&SEVEN_COMMA, 255),
-            Piece(&MINUS_SEVEN_COMMA, 1),
-        ],
-    )?;
-    assert!(rt; whole == Limit::Within, "256");
-    let more = limit(
-        alloc,
-        &[
-            Piece(&CURLY, 1),
-            Piece(&SEVEN_COMMA, 255),
-            Piece(&MINUS_SEVEN_COMMA, 2),
-        ],
-    )?;
-    assert!(rt; more == Limit::Passed(517, Cause::LongSet), "257");
-    let two = limit(
-        alloc,
-        &[
-            Piece(&CURLY, 1),
-            Piece(&SEVEN_COMMA, 255),
-            Piece(&CURLY, 1),
-            Piece(&SEVEN_COMMA, 255),
-            Piece(&END_CURLY, 1),
-        ],
-    )?;
-    assert!(rt; two == Limit::Within, "two sets");
-    Ok(())
-}
-
-#[test]
-fn strays(rt: HostRuntime) -> Result<(), Fail> {
-    let alloc = rt.alloc();
-    let at = limit(
-        alloc,
-        &[
-            Piece(&SET, 1),
-            Piece(&ROUND, 1),
-            Piece(&END_ROUND, 1),
-            Piece(&AT, 1),
-        ],
-    )?;
-    assert!(rt; at == Limit::Stray(6), "an `@` behind a set");
-    let dot = limit(
-        alloc,
-        &[
-            Piece(&SET, 1),
-            Piece(&ROUND, 1),
-            Piece(&NAME, 1),
-            Piece(&END_ROUND, 1),
-            Piece(&DOT, 1),
-        ],
-    )?;
-    assert!(rt; dot == Limit::Stray(7), "a `.` behind a set");
-    Ok(())
-}
-
-#[test]
-fn two_at_one_token(rt: HostRuntime) -> Result<(), Fail> {
-    let alloc = rt.alloc();
-    let deep = limit(
-        alloc,
-        &[
-            Piece(&DEFINITION, 1),
-            Piece(&CURLY, 100),
-            Piece(&NAME, 1945),
-            Piece(&CURLY, 1),
-        ],
-    )?;
-    assert!(rt;
-        deep == Limit::Passed(2051, Cause::TooDeep),
-        "too deep, too large"
-    );
-    let large = limit(
-        alloc,
-        &[
-            Piece(&DEFINITION, 1),
-            Piece(&NAME, 2028),
-            Piece(&ROUND, 1),
-            Piece(&NAME_COMMA, 8),
-            Piece(&NAME, 1),
-        ],
-    )?;
-    assert!(rt;
-        large == Limit::Passed(2051, Cause::TooLarge),
-        "too large, a ninth"
-    );
-    Ok(())
+fn limits_and_strays(rt: HostRuntime) -> Result<(), Fail> {
+    passes_all(&rt, rt.alloc(), STRAYS)?;
+    passes_all(&rt, rt.alloc(), TWO_AT_ONE_TOKEN)
 }

@@ -11,7 +11,7 @@ ghost use Rattle.std.specs.Prelude.{◌<◌, ◌^◌, length};
 ghost use Rattle.abc_checks.specs.Facts.{IsChecked};
 
 use abc_checks::check;
-use abc_drafts::{Draft, Mistake, put_words};
+use abc_drafts::{Draft, Mistake};
 use abc_moves::{Label, Live};
 use abc_pred::Name;
 use abc_term::Program;
@@ -46,10 +46,10 @@ fn number_of(word: &str) -> Result<u32, Mistake> {
 }
 
 /// That many outputs, each of its number, joined by `+` as they come.
-fn put_left(alloc: Global, draft: &mut Draft, count: u32) -> Result<(), Mistake> {
+fn put_left(draft: &mut Draft, count: u32) -> Result<(), Mistake> {
     for number in 0..count {
-        let words = format!(in alloc; "0 #{number} !")?;
-        put_words(alloc, draft, words.as_str())?;
+        draft.nil()?;
+        draft.say(i64::from(number))?;
         if number > 0 {
             draft.choice()?;
         }
@@ -58,10 +58,10 @@ fn put_left(alloc: Global, draft: &mut Draft, count: u32) -> Result<(), Mistake>
 }
 
 /// The same, joined when all have come.
-fn put_right(alloc: Global, draft: &mut Draft, count: u32) -> Result<(), Mistake> {
+fn put_right(draft: &mut Draft, count: u32) -> Result<(), Mistake> {
     for number in 0..count {
-        let words = format!(in alloc; "0 #{number} !")?;
-        put_words(alloc, draft, words.as_str())?;
+        draft.nil()?;
+        draft.say(i64::from(number))?;
     }
     for _ in 1..count {
         draft.choice()?;
@@ -70,10 +70,10 @@ fn put_right(alloc: Global, draft: &mut Draft, count: u32) -> Result<(), Mistake
 }
 
 /// That many definitions, each an output before its own call, and a call of the last.
-fn put_calls(alloc: Global, draft: &mut Draft, count: u32) -> Result<(), Mistake> {
+fn put_calls(draft: &mut Draft, count: u32) -> Result<(), Mistake> {
     for number in 0..count {
         draft.call(Name(number))?;
-        put_words(alloc, draft, "#1 !")?;
+        draft.say(1)?;
         draft.define(Name(number))?;
     }
     draft.call(Name(count.saturating_sub(1)))
@@ -82,11 +82,11 @@ fn put_calls(alloc: Global, draft: &mut Draft, count: u32) -> Result<(), Mistake
 fn program_of(alloc: Global, shape: Shape, size: u32) -> Result<Program, Mistake> {
     let mut draft = Draft::new(alloc);
     match shape {
-        Shape::Left => put_left(alloc, &mut draft, size)?,
-        Shape::Right => put_right(alloc, &mut draft, size)?,
-        Shape::Calls => put_calls(alloc, &mut draft, size)?,
+        Shape::Left => put_left(&mut draft, size)?,
+        Shape::Right => put_right(&mut draft, size)?,
+        Shape::Calls => put_calls(&mut draft, size)?,
     }
-    put_words(alloc, &mut draft, ">a")?;
+    draft.component(Name(0))?;
     draft.program(size)
 }
 

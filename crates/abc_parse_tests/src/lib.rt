@@ -1,8 +1,6 @@
-//! Tests of reading predicates and programs.
+//! Tests of the predicates at the fronts of texts, which the program doesn't read alone.
 #![tactic(auto)]
 
-#[cfg(test)]
-mod programs;
 #[cfg(test)]
 mod shown;
 #[cfg(test)]

@@ -1,4 +1,4 @@
-//! Choices and programs of tables.
+//! Choices and programs, from words and texts.
 ghost use Rattle.std.specs.Prelude.{IfOk};
 ghost use Rattle.abc_checks.specs.Facts.{IsChecked};
 
@@ -10,13 +10,27 @@ use std::alloc::Global;
 use std::process::Abort;
 use std::test::Fail;
 
-/// A choice: the sender, the place, and the hearers with their places.
-pub type Chosen = (u32, Option<u32>, &'static [(u32, u32)]);
+/// A number, and the one behind its `.`, where there is one.
+fn numbers_of(word: &str) -> (u32, Option<u32>) {
+    match word.split_once('.') {
+        Some((first, second)) => (
+            first.parse::<u32>().unwrap_or(0),
+            second.parse::<u32>().ok(),
+        ),
+        None => (0, None),
+    }
+}
 
-pub fn choice_of(alloc: Global, chosen: Chosen) -> Result<Choice, NoMemory> {
-    let (sender, place, hearers) = chosen;
+/// The choice of these words: by `0.2 1.0 3.1` component 0 speaks at place 2, component 1 hears at place
+/// 0 and component 3 at place 1; by `0.-` component 0 makes its empty step.
+pub fn choice_of(alloc: Global, words: &str) -> Result<Choice, NoMemory> {
+    let mut told = words.split(' ');
+    let (sender, place) = numbers_of(told.next().unwrap_or(""));
     let mut heard = List::new(alloc);
-    heard.extend_from_slice(hearers)?;
+    for word in told {
+        let (hearer, at) = numbers_of(word);
+        heard.push((hearer, at.unwrap_or(0)))?;
+    }
     Ok(Choice {
         sender,
         place,

@@ -2,7 +2,7 @@
 //! whichever allocation fails.
 ghost use Rattle.abc_checks.specs.Facts.{IsChecked};
 
-use crate::chosen::{Chosen, choice_of, program_of};
+use crate::chosen::{choice_of, program_of};
 use crate::shown::shown_run;
 use abc_packet::Choice;
 use abc_system::{Run, StepRow, System};
@@ -41,35 +41,23 @@ comp b { show; run ? (kind = \"x\") ($v) . [p := $v] 0 | ? (kind = \"y\") ($v) .
 comp c { show; run ? (tt) ($v) . [l := $v] 0 + ? (tt) ($v) . [m := $v] 0; }";
 
 /// A program, the pick, the choices of the first three steps, and these with what they end in.
-const RUNS: [(&[u8], u64, [Chosen; 3], &str); 3] = [
+const RUNS: [(&[u8], u64, [&str; 3], &str); 3] = [
     (
         CALLS,
         0,
-        [
-            (0, Some(0), &[(1, 0)]),
-            (1, Some(0), &[(0, 0)]),
-            (0, Some(0), &[(1, 0)]),
-        ],
+        ["0.0 1.0", "1.0 0.0", "0.0 1.0"],
         "0:0 (\"ping\", 0){kind=\"ping\";} -> 1:0; 1:0 (\"pong\", 0){kind=\"pong\";} -> 0:0; 0:0 (\"ping\", 1){kind=\"ping\";} -> 1:0; {n=2;kind=\"ping\";}{n=1;kind=\"pong\";} speaks",
     ),
     (
         SETS,
         0,
-        [
-            (0, Some(0), &[(1, 0), (2, 0)]),
-            (0, Some(0), &[(1, 0), (2, 0)]),
-            (0, Some(0), &[(1, 0), (2, 0)]),
-        ],
+        ["0.0 1.0 2.0", "0.0 1.0 2.0", "0.0 1.0 2.0"],
         "0:0 ({1, 2, 3}, 1, {}){s={1, 2, 3};} -> 1:0 2:0; 0:0 (3, 0, 0){s={1, 2, 3};} -> 1:0 2:0; 0:0 ({0, 1, 2, 3, \"x\", true}, {1, 3}, {-1, \"\", \"b\", false}){s={1, 2, 3};} -> 1:0 2:0; {s={1, 2, 3};u={};}{a={0, 1, 2, 3, \"x\", true};b={1, 3};c={-1, \"\", \"b\", false};}{a={0, 1, 2, 3, \"x\", true};b={1, 3};c={-1, \"\", \"b\", false};} speaks",
     ),
     (
         HEARERS,
         5,
-        [
-            (0, Some(0), &[(1, 2), (2, 1)]),
-            (0, Some(0), &[(1, 0)]),
-            (0, Some(0), &[(1, 0)]),
-        ],
+        ["0.0 1.2 2.1", "0.0 1.0", "0.0 1.0"],
         "0:0 (1){kind=\"x\";} -> 1:2 2:1; 0:0 (2){kind=\"x\";} -> 1:0; 0:0 (3){kind=\"x\";} -> 1:0; {kind=\"x\";}{p=2;r=3;s=1;}{m=1;} silent",
     ),
 ];
@@ -108,9 +96,9 @@ fn step_again(
     }
 }
 
-fn choice_again(alloc: Global, chosen: Chosen) -> Result<Choice, NoMemory> {
-    match choice_of(alloc, chosen) {
-        Err(NoMemory) => choice_of(alloc, chosen),
+fn choice_again(alloc: Global, words: &str) -> Result<Choice, NoMemory> {
+    match choice_of(alloc, words) {
+        Err(NoMemory) => choice_of(alloc, words),
         answer => answer,
     }
 }
@@ -149,15 +137,15 @@ fn shown_again(
 fn runs_so(
     rt: &impl Abort,
     alloc: Global,
-    run: &(&[u8], u64, [Chosen; 3], &str),
+    run: &(&[u8], u64, [&str; 3], &str),
     by_choices: bool,
 ) -> Result<(), Fail> {
     let (text, pick, choices, wanted) = run;
     let program = program_of(rt, alloc, text)?;
     let mut system = start(alloc, &program)?;
     let mut steps = room(alloc)?;
-    for (made, chosen) in choices.iter().enumerate() {
-        let choice = choice_again(alloc, *chosen)?;
+    for (made, words) in choices.iter().enumerate() {
+        let choice = choice_again(alloc, words)?;
         let told = if by_choices { Some(&choice) } else { None };
         match step_again(&mut system, *pick, made as u32, told)? {
             Some(row) => steps.push(row)?,

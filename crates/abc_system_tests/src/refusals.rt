@@ -2,7 +2,7 @@
 ghost use Rattle.std.specs.Prelude.{◌<◌, ◌^◌, length};
 ghost use Rattle.abc_checks.specs.Facts.{IsChecked};
 
-use crate::chosen::{Chosen, choice_of, program_of};
+use crate::chosen::{choice_of, program_of};
 use crate::shown::{put_envs, put_step, shown_run};
 use abc_packet::Choice;
 use abc_system::{ReplayRefusal, System, replay};
@@ -22,54 +22,50 @@ comp c { show; run H; }
 comp d { show; run 0; }";
 
 /// The choices of a run, and the run.
-const RIGHT: [Chosen; 3] = [
-    (0, Some(0), &[(1, 0), (2, 1)]),
-    (0, Some(0), &[(1, 1), (2, 0)]),
-    (0, Some(0), &[(1, 0), (2, 0)]),
-];
+const RIGHT: [&str; 3] = ["0.0 1.0 2.1", "0.0 1.1 2.0", "0.0 1.0 2.0"];
 
 const RUN: &str =
     "0:0 (1){} -> 1:0 2:1; 0:0 (2){} -> 1:1 2:0; 0:0 (3){} -> 1:0 2:0; {}{l=3;m=2;}{l=3;m=1;}{}";
 
 /// The index at which a choice stands for the right one, and that choice, which is no step there.
-const WRONG: [(usize, Chosen); 20] = [
+const WRONG: [(usize, &str); 20] = [
     // no such sender
-    (1, (4, Some(0), &[(1, 1), (2, 0)])),
-    (2, (4294967295, Some(0), &[])),
+    (1, "4.0 1.1 2.0"),
+    (2, "4294967295.0"),
     // the sender has no output
-    (1, (1, Some(0), &[(0, 0), (2, 0)])),
-    (2, (3, Some(0), &[(0, 0), (1, 0), (2, 0)])),
+    (1, "1.0 0.0 2.0"),
+    (2, "3.0 0.0 1.0 2.0"),
     // no such output
-    (1, (0, Some(1), &[(1, 1), (2, 0)])),
-    (2, (0, Some(4294967295), &[(1, 0), (2, 0)])),
+    (1, "0.1 1.1 2.0"),
+    (2, "0.4294967295 1.0 2.0"),
     // who can hear is left out
-    (1, (0, Some(0), &[(1, 1)])),
-    (1, (0, Some(0), &[(2, 0)])),
-    (2, (0, Some(0), &[])),
+    (1, "0.0 1.1"),
+    (1, "0.0 2.0"),
+    (2, "0.0"),
     // who cannot hear is there
-    (1, (0, Some(0), &[(1, 1), (2, 0), (3, 0)])),
-    (2, (0, Some(0), &[(1, 0), (2, 0), (4, 0)])),
+    (1, "0.0 1.1 2.0 3.0"),
+    (2, "0.0 1.0 2.0 4.0"),
     // no such input
-    (1, (0, Some(0), &[(1, 2), (2, 0)])),
-    (2, (0, Some(0), &[(1, 0), (2, 4294967295)])),
+    (1, "0.0 1.2 2.0"),
+    (2, "0.0 1.0 2.4294967295"),
     // out of order, or twice
-    (1, (0, Some(0), &[(2, 0), (1, 1)])),
-    (1, (0, Some(0), &[(1, 1), (1, 1), (2, 0)])),
-    (2, (0, Some(0), &[(1, 0), (2, 0), (2, 1)])),
+    (1, "0.0 2.0 1.1"),
+    (1, "0.0 1.1 1.1 2.0"),
+    (2, "0.0 1.0 2.0 2.1"),
     // the sender hears itself
-    (1, (0, Some(0), &[(0, 0), (1, 1), (2, 0)])),
+    (1, "0.0 0.0 1.1 2.0"),
     // empty steps with a hearer, and of nobody
-    (1, (0, None, &[(1, 1)])),
-    (2, (0, None, &[(1, 0), (2, 0)])),
-    (2, (4, None, &[])),
+    (1, "0.- 1.1"),
+    (2, "0.- 1.0 2.0"),
+    (2, "4.-"),
 ];
 
 /// The right choices, with this one in place of that at the index.
-fn spoiled(alloc: Global, at: usize, wrong: Chosen) -> Result<List<Choice>, NoMemory> {
+fn spoiled(alloc: Global, at: usize, wrong: &str) -> Result<List<Choice>, NoMemory> {
     let mut choices = List::new(alloc);
     for (index, right) in RIGHT.iter().enumerate() {
-        let chosen = if index == at { wrong } else { *right };
-        choices.push(choice_of(alloc, chosen)?)?;
+        let words = if index == at { wrong } else { *right };
+        choices.push(choice_of(alloc, words)?)?;
     }
     Ok(choices)
 }
@@ -103,17 +99,17 @@ fn wrong_choices(rt: HostRuntime) -> Result<(), Fail> {
 fn empty_steps(rt: HostRuntime) -> Result<(), Fail> {
     let alloc = rt.alloc();
     let program = program_of(&rt, alloc, TEXT)?;
-    for (sender, wanted) in [
+    for (empty, wanted) in [
         (
-            0,
+            "0.-",
             "0:0 (1){} -> 1:0 2:1; 0:- ->; 0:0 (2){} -> 1:0 2:0; {}{l=2;}{l=2;m=1;}{} speaks",
         ),
         (
-            3,
+            "3.-",
             "0:0 (1){} -> 1:0 2:1; 3:- ->; 0:0 (2){} -> 1:0 2:0; {}{l=2;}{l=2;m=1;}{} speaks",
         ),
     ] {
-        let choices = spoiled(alloc, 1, (sender, None, &[]))?;
+        let choices = spoiled(alloc, 1, empty)?;
         assert!(rt; choices.len() < 100000);
         let run = replay(alloc, &program, choices.as_slice())?;
         let line = shown_run(alloc, program.names.as_slice(), &run)?;
@@ -140,7 +136,7 @@ fn goes_on(
         if index == at {
             assert!(rt; system.step(wrong)?.is_none(), "{wrong:?}");
         }
-        let choice = choice_of(alloc, *right)?;
+        let choice = choice_of(alloc, right)?;
         match system.step(&choice)? {
             Some(row) => put_step(alloc, names, &row, &mut line)?,
             None => assert!(rt; false, "{choice:?} behind {wrong:?}"),

@@ -41,6 +41,18 @@ fn put_env(
     line.extend_from_slice(b"}")
 }
 
+fn put_label(
+    alloc: Global,
+    names: &[ShortText],
+    label: &Label,
+    line: &mut List<u8>,
+) -> Result<(), NoMemory> {
+    line.extend_from_slice(b"(")?;
+    put_values(alloc, label.values.as_slice(), line)?;
+    line.extend_from_slice(b")")?;
+    put_env(alloc, names, &label.shown, line)
+}
+
 fn put_said(
     alloc: Global,
     names: &[ShortText],
@@ -51,10 +63,8 @@ fn put_said(
         None => line.extend_from_slice(b"-"),
         Some((place, label)) => {
             put_number(alloc, *place, line)?;
-            line.extend_from_slice(b" (")?;
-            put_values(alloc, label.values.as_slice(), line)?;
-            line.extend_from_slice(b")")?;
-            put_env(alloc, names, &label.shown, line)
+            line.extend_from_slice(b" ")?;
+            put_label(alloc, names, label, line)
         }
     }
 }
@@ -107,15 +117,19 @@ pub fn put_envs(
     Ok(())
 }
 
-pub fn shown_step(alloc: Global, names: &[ShortText], row: &StepRow) -> Result<List<u8>, NoMemory> {
+pub fn shown_label(
+    alloc: Global,
+    names: &[ShortText],
+    label: &Label,
+) -> Result<List<u8>, NoMemory> {
     let mut line = List::new(alloc);
-    put_step(alloc, names, row, &mut line)?;
+    put_label(alloc, names, label, &mut line)?;
     Ok(line)
 }
 
-pub fn shown_envs(alloc: Global, names: &[ShortText], envs: &[Env]) -> Result<List<u8>, NoMemory> {
+pub fn shown_env(alloc: Global, names: &[ShortText], env: &Env) -> Result<List<u8>, NoMemory> {
     let mut line = List::new(alloc);
-    put_envs(alloc, names, envs, &mut line)?;
+    put_env(alloc, names, env, &mut line)?;
     Ok(line)
 }
 

@@ -1,5 +1,14 @@
-//! Tests that go through several crates: words, texts and failing devices, by the top call.
+//! Tests that go through several crates: words, texts, failing devices and refused memory, by the top
+//! call.
 #![tactic(auto)]
 
 #[cfg(test)]
-mod tests;
+mod devices;
+#[cfg(test)]
+mod growths;
+#[cfg(test)]
+mod scene;
+#[cfg(test)]
+mod texts;
+#[cfg(test)]
+mod words;

@@ -9,130 +9,111 @@ use std::alloc::{AllocError, Global};
 use std::process::Abort;
 use std::test::Fail;
 
-/// Texts, and the tokens of each: by the letter of its kind, its place and its length. The first bad
-/// token comes last, by its cause and its place.
-const SYMBOLS: [(&[u8], &str); 15] = [
-    (b"", ""),
-    (b" \t\r\n", ""),
-    (b"# c", ""),
-    (b"# c\n", ""),
-    (b"# \xff\x00\n;", "S5.1"),
-    (b"#", ""),
-    (b"##\n#\n", ""),
-    (b"abc 1;", "W0.3 N4.1 S5.1"),
-    (
-        b"(){}[];,.@?+-*|<=",
-        "S0.1 S1.1 S2.1 S3.1 S4.1 S5.1 S6.1 S7.1 S8.1 S9.1 S10.1 S11.1 S12.1 S13.1 S14.1 S15.1 S16.1",
-    ),
-    (b":=", "S0.2"),
-    (b":", "BadByte at 0"),
-    (b": =", "BadByte at 0"),
-    (b"a:=b", "W0.1 S1.2 W3.1"),
-    (b"a:b", "W0.1 BadByte at 1"),
-    (b"=:", "S0.1 BadByte at 1"),
-];
+// In the tables each line is a text, ` => `, and its tokens: each by the letter of its kind, its place and
+// its length. The first bad token comes last, by its cause and its place. Where there is none, `nothing`
+// stands. The byte 1 stands for a line feed in the text.
 
-const WORDS: [(&[u8], &str); 16] = [
-    (b"$x", "V0.2"),
-    (b"$in", "V0.3"),
-    (b"$1", "BadByte at 0"),
-    (b"$", "BadByte at 0"),
-    (b"$ x", "BadByte at 0"),
-    (b"$_", "BadByte at 0"),
-    (b"x$y", "W0.1 V1.2"),
-    (b"_", "BadByte at 0"),
-    (b"a_1 b", "W0.3 W4.1"),
-    (b"1or", "N0.1 W1.2"),
-    (b"0x", "N0.1 W1.1"),
-    (b"abcdefghijklmnopqrstuvwxyz012345", "W0.32"),
-    (b"abcdefghijklmnopqrstuvwxyz0123456", "LongName at 0"),
-    (b"$abcdefghijklmnopqrstuvwxyz012345", "V0.33"),
-    (b"$abcdefghijklmnopqrstuvwxyz0123456", "LongName at 0"),
-    (b"; abcdefghijklmnopqrstuvwxyz0123456", "S0.1 LongName at 2"),
-];
+/// Blanks, comments and symbols.
+const SYMBOLS: &str = " => nothing
+ \t\r\x01 => nothing
+# c => nothing
+# c\x01 => nothing
+# é\x00\x01; => S6.1
+# => nothing
+##\x01#\x01 => nothing
+abc 1; => W0.3 N4.1 S5.1
+(){}[];,.@?+-*|<= => S0.1 S1.1 S2.1 S3.1 S4.1 S5.1 S6.1 S7.1 S8.1 S9.1 S10.1 S11.1 S12.1 S13.1 S14.1 S15.1 S16.1
+:= => S0.2
+: => BadByte at 0
+: = => BadByte at 0
+a:=b => W0.1 S1.2 W3.1
+a:b => W0.1 BadByte at 1
+=: => S0.1 BadByte at 1
+";
 
-const TEXTS: [(&[u8], &str); 20] = [
-    (b"\"\"", "T0.2"),
-    (b"\"a b\"c", "T0.5 W5.1"),
-    (b"\"\\\"\"", "T0.4"),
-    (b"\"\\\\\"", "T0.4"),
-    (b"\"\\n\"", "BadText at 0"),
-    (b"\"a", "BadText at 0"),
-    (b"\"", "BadText at 0"),
-    (b"\"\\", "BadText at 0"),
-    (b"\"a\tb\"", "BadText at 0"),
-    (b"\"a\x7f\"", "BadText at 0"),
-    (b"\"\xc3\xa9\"", "BadText at 0"),
-    (b"\"a\n\"", "BadText at 0"),
-    (b"\"\\\"", "BadText at 0"),
-    (b"\" ~\"", "T0.4"),
-    (b"1 \"", "N0.1 BadText at 2"),
-    (
-        b"\"aaaaaaaaaaaaaaaaaaaaaaaaaaaaaaaaaaaaaaaaaaaaaaaaaaaaaaaaaaaaaaaa\"",
-        "T0.66",
-    ),
-    (
-        b"\"aaaaaaaaaaaaaaaaaaaaaaaaaaaaaaaaaaaaaaaaaaaaaaaaaaaaaaaaaaaaaaaaa\"",
-        "LongText at 0",
-    ),
-    (
-        b"\"aaaaaaaaaaaaaaaaaaaaaaaaaaaaaaaaaaaaaaaaaaaaaaaaaaaaaaaaaaaaaaaaa",
-        "BadText at 0",
-    ),
-    (
-        b"\"aaaaaaaaaaaaaaaaaaaaaaaaaaaaaaaaaaaaaaaaaaaaaaaaaaaaaaaaaaaaaaa\\\"\"",
-        "T0.67",
-    ),
-    (
-        b"\"aaaaaaaaaaaaaaaaaaaaaaaaaaaaaaaaaaaaaaaaaaaaaaaaaaaaaaaaaaaaaaaa\\\"\"",
-        "LongText at 0",
-    ),
-];
+/// Words and variables.
+const WORDS: &str = "$x => V0.2
+$in => V0.3
+$1 => BadByte at 0
+$ => BadByte at 0
+$ x => BadByte at 0
+$_ => BadByte at 0
+x$y => W0.1 V1.2
+_ => BadByte at 0
+a_1 b => W0.3 W4.1
+1or => N0.1 W1.2
+0x => N0.1 W1.1
+abcdefghijklmnopqrstuvwxyz012345 => W0.32
+abcdefghijklmnopqrstuvwxyz0123456 => LongName at 0
+$abcdefghijklmnopqrstuvwxyz012345 => V0.33
+$abcdefghijklmnopqrstuvwxyz0123456 => LongName at 0
+; abcdefghijklmnopqrstuvwxyz0123456 => S0.1 LongName at 2
+";
 
-const NUMBERS: [(&[u8], &str); 15] = [
-    (b"9223372036854775807", "N0.19"),
-    (b"9223372036854775808", "WideNumber at 0"),
-    (b"-9223372036854775808", "S0.1 N1.19"),
-    (b"-9223372036854775809", "S0.1 WideNumber at 1"),
-    (b"- -9223372036854775808", "S0.1 S2.1 N3.19"),
-    (b"a - -9223372036854775808", "W0.1 S2.1 S4.1 N5.19"),
-    (b"#\n-9223372036854775808", "S2.1 N3.19"),
-    (b"-#x\n9223372036854775808", "S0.1 N4.19"),
-    (b"- 1 9223372036854775808", "S0.1 N2.1 WideNumber at 4"),
-    (b"+9223372036854775808", "S0.1 WideNumber at 1"),
-    (b"18446744073709551616", "WideNumber at 0"),
-    (
-        b"9999999999999999999999999999999999999999",
-        "WideNumber at 0",
-    ),
-    (b"007", "N0.3"),
-    (b"00000000009223372036854775808", "WideNumber at 0"),
-    (b"00000000009223372036854775807", "N0.29"),
-];
+/// Texts.
+const TEXTS: &str = "\"\" => T0.2
+\"a b\"c => T0.5 W5.1
+\"\\\"\" => T0.4
+\"\\\\\" => T0.4
+\"\\n\" => BadText at 0
+\"a => BadText at 0
+\" => BadText at 0
+\"\\ => BadText at 0
+\"a\tb\" => BadText at 0
+\"a\x7f\" => BadText at 0
+\"é\" => BadText at 0
+\"a\x01\" => BadText at 0
+\"\\\" => BadText at 0
+\" ~\" => T0.4
+1 \" => N0.1 BadText at 2
+\"aaaaaaaaaaaaaaaaaaaaaaaaaaaaaaaaaaaaaaaaaaaaaaaaaaaaaaaaaaaaaaaa\" => T0.66
+\"aaaaaaaaaaaaaaaaaaaaaaaaaaaaaaaaaaaaaaaaaaaaaaaaaaaaaaaaaaaaaaaaa\" => LongText at 0
+\"aaaaaaaaaaaaaaaaaaaaaaaaaaaaaaaaaaaaaaaaaaaaaaaaaaaaaaaaaaaaaaaaa => BadText at 0
+\"aaaaaaaaaaaaaaaaaaaaaaaaaaaaaaaaaaaaaaaaaaaaaaaaaaaaaaaaaaaaaaa\\\"\" => T0.67
+\"aaaaaaaaaaaaaaaaaaaaaaaaaaaaaaaaaaaaaaaaaaaaaaaaaaaaaaaaaaaaaaaa\\\"\" => LongText at 0
+";
 
-const BYTES: [(&[u8], &str); 21] = [
-    (b"\x00", "BadByte at 0"),
-    (b"\xff", "BadByte at 0"),
-    (b"!", "BadByte at 0"),
-    (b"%", "BadByte at 0"),
-    (b"&", "BadByte at 0"),
-    (b"'", "BadByte at 0"),
-    (b"/", "BadByte at 0"),
-    (b">", "BadByte at 0"),
-    (b"\\", "BadByte at 0"),
-    (b"^", "BadByte at 0"),
-    (b"`", "BadByte at 0"),
-    (b"~", "BadByte at 0"),
-    (b"\x0b", "BadByte at 0"),
-    (b"a\x00", "W0.1 BadByte at 1"),
-    (b"a # b\nc", "W0.1 W6.1"),
-    (b"a#b", "W0.1"),
-    (b"a#b\r\nc", "W0.1 W5.1"),
-    (b"none", "W0.4"),
-    (b"nonex", "W0.5"),
-    (b"a\n!b", "W0.1 BadByte at 2"),
-    (b"! 9223372036854775808", "BadByte at 0"),
-];
+/// Numbers, and signs before them.
+const NUMBERS: &str = "9223372036854775807 => N0.19
+9223372036854775808 => WideNumber at 0
+-9223372036854775808 => S0.1 N1.19
+-9223372036854775809 => S0.1 WideNumber at 1
+- -9223372036854775808 => S0.1 S2.1 N3.19
+a - -9223372036854775808 => W0.1 S2.1 S4.1 N5.19
+#\x01-9223372036854775808 => S2.1 N3.19
+-#x\x019223372036854775808 => S0.1 N4.19
+- 1 9223372036854775808 => S0.1 N2.1 WideNumber at 4
++9223372036854775808 => S0.1 WideNumber at 1
+18446744073709551616 => WideNumber at 0
+9999999999999999999999999999999999999999 => WideNumber at 0
+007 => N0.3
+00000000009223372036854775808 => WideNumber at 0
+00000000009223372036854775807 => N0.29
+";
+
+/// Bytes that begin no token, and what stands around comments.
+const BYTES: &str = "\x00 => BadByte at 0
+é => BadByte at 0
+! => BadByte at 0
+% => BadByte at 0
+& => BadByte at 0
+' => BadByte at 0
+/ => BadByte at 0
+> => BadByte at 0
+\\ => BadByte at 0
+^ => BadByte at 0
+` => BadByte at 0
+~ => BadByte at 0
+\x0b => BadByte at 0
+a\x00 => W0.1 BadByte at 1
+a # b\x01c => W0.1 W6.1
+a#b => W0.1
+a#b\r\x01c => W0.1 W5.1
+none => W0.4
+nonex => W0.5
+a\x01!b => W0.1 BadByte at 2
+! 9223372036854775808 => BadByte at 0
+";
 
 fn letter(kind: TokenKind) -> char {
     match kind {
@@ -183,66 +164,53 @@ fn checks_text(rt: &impl Abort, alloc: Global, text: &[u8], wanted: &str) -> Res
     Ok(())
 }
 
-#[test]
-fn blanks_and_symbols(rt: HostRuntime) -> Result<(), Fail> {
-    let alloc = rt.alloc();
-    for (text, wanted) in SYMBOLS {
-        checks_text(&rt, alloc, text, wanted)?;
+/// The bytes of a text of a table.
+fn text_of(alloc: Global, told: &str) -> Result<Vec<u8>, AllocError> {
+    let mut text = Vec::new(alloc);
+    for byte in told.as_bytes() {
+        text.push(if *byte == 1 { b'\n' } else { *byte })?;
+    }
+    Ok(text)
+}
+
+/// Wants the tokens of each text of a table.
+fn checks_all(rt: &impl Abort, alloc: Global, table: &str) -> Result<(), Fail> {
+    for line in table.lines() {
+        let (told, wanted) = line.split_once(" => ").ok_or("no tokens in a line")?;
+        let text = text_of(alloc, told)?;
+        let wanted = if wanted == "nothing" { "" } else { wanted };
+        checks_text(rt, alloc, text.as_slice(), wanted)?;
     }
     Ok(())
 }
 
 #[test]
-fn words_and_variables(rt: HostRuntime) -> Result<(), Fail> {
-    let alloc = rt.alloc();
-    for (text, wanted) in WORDS {
-        checks_text(&rt, alloc, text, wanted)?;
-    }
-    Ok(())
+fn blanks_and_symbols(rt: HostRuntime) -> Result<(), Fail> {
+    checks_all(&rt, rt.alloc(), SYMBOLS)?;
+    checks_all(&rt, rt.alloc(), BYTES)
+}
+
+#[test]
+fn words_and_numbers(rt: HostRuntime) -> Result<(), Fail> {
+    checks_all(&rt, rt.alloc(), WORDS)?;
+    checks_all(&rt, rt.alloc(), NUMBERS)
 }
 
 #[test]
 fn texts(rt: HostRuntime) -> Result<(), Fail> {
-    let alloc = rt.alloc();
-    for (text, wanted) in TEXTS {
-        checks_text(&rt, alloc, text, wanted)?;
-    }
-    Ok(())
-}
-
-#[test]
-fn numbers(rt: HostRuntime) -> Result<(), Fail> {
-    let alloc = rt.alloc();
-    for (text, wanted) in NUMBERS {
-        checks_text(&rt, alloc, text, wanted)?;
-    }
-    Ok(())
-}
-
-#[test]
-fn bad_bytes_and_comments(rt: HostRuntime) -> Result<(), Fail> {
-    let alloc = rt.alloc();
-    for (text, wanted) in BYTES {
-        checks_text(&rt, alloc, text, wanted)?;
-    }
-    Ok(())
+    checks_all(&rt, rt.alloc(), TEXTS)
 }
 
 /// Tokens behind which a `-` is no sign.
-const NO_SIGN_AFTER: [&[u8]; 11] = [
-    b"a", b"abcd", b"$a", b"$in", b"1", b"\"\"", b"true", b"false", b"none", b")", b"}",
-];
+const NO_SIGN_AFTER: &str = "a abcd $a $in 1 \"\" true false none ) }";
 
 /// And behind which it is.
-const SIGN_AFTER: [&[u8]; 34] = [
-    b"(", b"[", b"]", b"{", b";", b",", b".", b"@", b"?", b"+", b"-", b"*", b"|", b"<", b"=",
-    b":=", b"abc", b"and", b"comp", b"def", b"ff", b"free", b"in", b"not", b"or", b"run", b"set",
-    b"show", b"size", b"this", b"tt", b"union", b"when", b"without",
-];
+const SIGN_AFTER: &str =
+    "( [ ] { ; , . @ ? + - * | < = := abc and comp def ff free in not or run set show size this tt union when without";
 
-fn checks_sign(rt: &impl Abort, alloc: Global, token: &[u8], sign: bool) -> Result<(), Fail> {
+fn checks_sign(rt: &impl Abort, alloc: Global, token: &str, sign: bool) -> Result<(), Fail> {
     let mut text = Vec::new(alloc);
-    text.extend_from_slice(token)?;
+    text.extend_from_slice(token.as_bytes())?;
     text.extend_from_slice(b" -9223372036854775808")?;
     assert!(rt; text.len() < 100);
     let all = tokens(alloc, text.as_slice());
@@ -256,10 +224,10 @@ fn checks_sign(rt: &impl Abort, alloc: Global, token: &[u8], sign: bool) -> Resu
 #[test]
 fn signs_after_tokens(rt: HostRuntime) -> Result<(), Fail> {
     let alloc = rt.alloc();
-    for token in NO_SIGN_AFTER {
+    for token in NO_SIGN_AFTER.split(' ') {
         checks_sign(&rt, alloc, token, false)?;
     }
-    for token in SIGN_AFTER {
+    for token in SIGN_AFTER.split(' ') {
         checks_sign(&rt, alloc, token, true)?;
     }
     Ok(())
