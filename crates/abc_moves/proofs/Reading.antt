@@ -74,6 +74,11 @@ sat_inside xs vs bs p own other =
 pub pred_nothing : (u : Values) (p : Pred) → u ≡ [] → put_pred u p ≡ p
 pred_nothing u p f = ap (λ w. put_pred w p) f ∙ (let e = putting_nothing (When p Nil) in cc)
 
+-- updates under what an input's variables read are updates in which their values have been put
+pub updates_twice : (xs : List Name) (vs : List Value) (bs : Values) (us : List Update) →
+    put_updates (inside xs vs bs) us ≡ put_updates (zip xs vs) (put_updates (outside xs bs) us)
+updates_twice xs vs bs us = let e = sym (putting_twice (outside xs bs) (zip xs vs) (Output [] True us Nil)) in cc
+
 pub updates_inside : (xs : List Name) (vs : List Value) (outer inner : Values) → PutsInside xs vs outer inner → (us : List Update) → put_updates inner us ≡ put_updates (zip xs vs) (put_updates (outside xs outer) us)
 updates_inside xs vs outer inner h us = let e = h (Output [] True us Nil) in cc
 

@@ -85,6 +85,9 @@ impl<'p> Live<'p> {
         ensures count { result ≡ ins (definitions_in self.now) (component_in self.now) (label_of label.now) }
         ensures few { result ≤ MOST_MOVES }
     {
+        if self.state.tree.is_nil() {
+            return 0;
+        }
         let bodies = bodies_of(self.definitions, &self.fixed.first);
         let at = Around::new(
             self.fixed.alloc,

@@ -1,6 +1,7 @@
 ghost use Rattle.std.specs.Prelude.{◌≡◌, IfOk, length, unwrap_or};
+ghost use Rattle.std.specs.List.{zip};
 ghost use Rattle.abc_term.specs.Standing.{process_of};
-ghost use Rattle.abc_term.specs.Substitution.{put};
+ghost use Rattle.abc_term.specs.Substitution.{put, outside};
 ghost use Rattle.abc_moves.specs.Walks.{ComesTo};
 ghost use Rattle.abc_moves.specs.Arounds.{ins_here, IsMeantHere};
 ghost use Rattle.abc_moves.specs.Labels.{label_of};
@@ -15,8 +16,10 @@ use crate::site::{Beside, InputAction, Site, joined};
 use crate::tree::Tree;
 use crate::updates::updated;
 use crate::walk::{Walk, holds, takes};
+use crate::wanted::Heard;
+use abc_pred::Name;
 use abc_term::Process;
-use abc_value::NoMemory;
+use abc_value::{NoMemory, Value};
 use std::alloc::Global;
 
 /// An input that a walk has found.
@@ -37,13 +40,38 @@ pub fn heard<'p>(
     ensures tree { IfOk result (λ m. process_in m.tree ≡ taken_process (label_of label.now) site.now) }
 {
     let InputAction { xs, after } = site.action;
-    let inside = site
-        .scope
-        .inside(alloc, xs.as_slice(), label.values.as_slice())?;
-    let env = updated(alloc, at.env, &inside, after.updates.as_slice())?;
+    let xs = xs.as_slice();
+    let values = label.values.as_slice();
+    let scope = site.scope;
+    let env = updated(
+        alloc,
+        at.env,
+        &Heard { xs, values, scope },
+        after.updates.as_slice(),
+    )?;
+    let inside = bound_behind(alloc, &after.then, scope, xs, values)?;
     let then = Tree::Leaf(&after.then, inside);
     let tree = joined(alloc, then, site.beside.as_slice())?;
     Ok(Move { leaf, env, tree })
+}
+
+/// The bindings of what follows an input that binds these variables to these values. `0` and a call
+/// have no variables, so nothing is bound for them.
+fn bound_behind(
+    alloc: Global,
+    p: &Process,
+    scope: &Scope,
+    xs: &[Name],
+    values: &[Value],
+) -> Result<Scope, NoMemory>
+    requires { length xs.now ≡ length values.now }
+    ensures { IfOk result (λ s. put s (process_of p.now)
+        ≡ put (zip xs.now values.now) (put (outside xs.now scope.now) (process_of p.now))) }
+{
+    match p {
+        Process::Nil | Process::Call(_) => Ok(Scope::empty(alloc)),
+        _ => scope.inside(alloc, xs, values),
+    }
 }
 
 /// A walk over the process for its input at a place, among those that take a message which is meant for

@@ -8,6 +8,7 @@
 mod around;
 mod bodies;
 mod component;
+mod evaluation;
 mod hearing;
 mod label;
 mod leaves;

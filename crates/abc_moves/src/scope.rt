@@ -7,7 +7,7 @@ ghost use Rattle.abc_pred.specs.Seeing.{other_of};
 ghost use Rattle.abc_term.specs.Substitution.{put_pred, put_expr};
 ghost use Rattle.abc_moves.specs.Scopes.{values_in, IsScope, bind_all, PutsInside};
 
-use abc_pred::{Bindings, Env, Expr, Name, Pred, Seen, close, eval, sat};
+use abc_pred::{Bindings, Env, Expr, Name, Pred, Seen, Variables, close, eval, sat};
 use abc_value::{List, NoMemory, Value, View};
 use std::alloc::Global;
 use std::marker::Model;
@@ -92,6 +92,14 @@ impl Scope {
         let mut vars = self.vars.copy(alloc)?;
         bind_each(alloc, &mut vars, xs, values)?;
         Ok(scope_of(bound, vars))
+    }
+}
+
+impl Variables for Scope {
+    ghost bound = { λ s. s };
+
+    fn value(&self, x: Name) -> View<'_> {
+        self.get(x)
     }
 }
 

@@ -1,4 +1,4 @@
-ghost use Rattle.std.specs.Prelude.{◌≡◌, IfOk};
+ghost use Rattle.std.specs.Prelude.{◌≡◌, IfOk, IsTrue};
 
 use crate::scope::Scope;
 use abc_term::Process;
@@ -24,16 +24,26 @@ pub struct Sides<'p> {
 }
 
 impl<'p> Tree<'p> {
-    ghost use Rattle.abc_term.specs.Processes.{Par};
+    ghost use Rattle.abc_term.specs.Processes.{Nil, Par};
     ghost use Rattle.abc_term.specs.Standing.{process_of};
     ghost use Rattle.abc_term.specs.Substitution.{put};
     ghost use Rattle.abc_moves.specs.Trees.{process_in};
 
-    /// A part of the program, with bindings of its own.
+    /// A part of the program, with bindings of its own; `0` and a call have no variables, and need none.
     pub fn leaf(alloc: Global, p: &'p Process, scope: &Scope) -> Result<Tree<'p>, NoMemory>
         ensures { IfOk result (λ t. process_in t ≡ put scope.now (process_of p.now)) }
     {
-        Ok(Tree::Leaf(p, scope.copy(alloc)?))
+        match p {
+            Process::Nil | Process::Call(_) => Ok(Tree::Leaf(p, Scope::empty(alloc))),
+            _ => Ok(Tree::Leaf(p, scope.copy(alloc)?)),
+        }
+    }
+
+    /// Whether nothing is left to do.
+    pub fn is_nil(&self) -> bool
+        ensures { IsTrue result → process_in self.now ≡ Nil }
+    {
+        matches!(self, Tree::Leaf(Process::Nil, _))
     }
 
     /// Two trees side by side.

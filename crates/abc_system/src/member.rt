@@ -1,5 +1,5 @@
 //! The components of a system, each with the move that it makes in the step that is being made.
-ghost use Rattle.std.specs.Prelude.{◌≡◌, map, All};
+ghost use Rattle.std.specs.Prelude.{◌≡◌, map, All, None};
 ghost use Rattle.abc_system.specs.Members.{now_in, then_in, program_of, IsReady};
 
 use abc_moves::{Live, Move};
@@ -13,12 +13,25 @@ pub struct Member<'p> {
 }
 
 impl<'p> Member<'p> {
+    /// No move stands ready: the component will stay as it is.
+    pub fn stay(&mut self)
+        ensures { self.new ≡ record self.old { next = None } }
+    {
+        if self.next.is_some() {
+            self.next = None;
+        }
+    }
+
     /// The component makes its move.
     fn put(&mut self)
         requires { IsReady self.old }
         ensures moved { now_in self.new ≡ then_in self.old }
         ensures program { program_of self.new ≡ program_of self.old }
     {
+        // Most members stay as they are, and their move is not taken out.
+        if self.next.is_none() {
+            return;
+        }
         if let Some(made) = self.next.take() {
             self.live.put(made);
         }

@@ -30,7 +30,7 @@ fn prepare_one<'h>(
     ensures part { IfOk result (λ rest. TakesPart (definitions_of definitions.now) sender (label_of label.now) number (now_in member.old) heard.now rest.now (then_in member.new)) }
 {
     if number == sender {
-        member.next = None;
+        member.stay();
         return Ok(heard);
     }
     match listed(number, heard) {
@@ -39,7 +39,7 @@ fn prepare_one<'h>(
             Ok(rest)
         }
         None => {
-            member.next = None;
+            member.stay();
             Ok(heard)
         }
     }
