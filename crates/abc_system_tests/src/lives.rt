@@ -76,8 +76,10 @@ fn labels_move_nothing(rt: HostRuntime) -> Result<(), Fail> {
     let alloc = rt.alloc();
     let program = two(&rt, alloc)?;
     let mut live = Live::start(alloc, &program, 0)?;
-    says(&rt, alloc, &program, &look(&rt, &live, 1)?, "(2){n=3;}")?;
-    says(&rt, alloc, &program, &look(&rt, &live, 0)?, "(3){n=3;}")?;
+    let second = look(&rt, &live, 1)?;
+    says(&rt, alloc, &program, &second, "(2){n=3;}")?;
+    let first = look(&rt, &live, 0)?;
+    says(&rt, alloc, &program, &first, "(3){n=3;}")?;
     stands(&rt, alloc, &program, &live, (2, "{n=3;}"))?;
     let said = speak(&rt, &mut live, 0)?;
     says(&rt, alloc, &program, &said, "(3){n=3;}")?;

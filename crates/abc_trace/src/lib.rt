@@ -1,6 +1,7 @@
 //! Traces: what happened in a run, and its text.
 //!
-//! `specs/Lines.antt` has the text of each kind of line, `specs/Texts.antt` that of a trace.
+//! `specs/Lines.antt` has the text of each kind of line, `specs/Texts.antt` that of a trace; `specs/WellFormed.antt` says which traces have
+//! one, and `specs/Met.antt` in which order its words are met.
 #![tactic(auto)]
 
 mod examples;

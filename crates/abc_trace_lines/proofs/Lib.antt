@@ -1,0 +1,14 @@
+pub mod Cuts
+pub mod Numerals
+pub mod Words
+pub mod Literals
+pub mod ItemLists
+pub mod TupleValues
+pub mod Hearers
+pub mod EntryLists
+pub mod WordsDiffer
+pub mod SaidLines
+pub mod FirstBytes
+pub mod OneReading
+pub mod CountLines
+pub mod HeadLines

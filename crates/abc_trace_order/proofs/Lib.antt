@@ -1,0 +1,13 @@
+pub mod Splits
+pub mod TextIs
+pub mod Exact
+pub mod OneLine
+pub mod InOrder
+pub mod WordLists
+pub mod Stay
+pub mod Bounds
+pub mod Growth
+pub mod Completion
+pub mod HasRead
+pub mod Numbering
+pub mod Refusing

@@ -1,0 +1,4 @@
+pub mod Items
+pub mod Rooms
+pub mod Onward
+pub mod Stepping

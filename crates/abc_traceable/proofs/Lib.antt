@@ -1,0 +1,11 @@
+pub mod Accepted
+pub mod Values
+pub mod Numbers
+pub mod Telling
+pub mod Environments
+pub mod Moving
+pub mod Running
+pub mod Starting
+pub mod Different
+pub mod Components
+pub mod Naming

@@ -1,0 +1,2 @@
+pub mod Traceable
+pub mod Told
