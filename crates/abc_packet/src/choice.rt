@@ -10,10 +10,3 @@ pub struct Choice {
     /// The numbers of those that hear, in rising order, each with the place of its input.
     pub heard: List<(u32, u32)>,
 }
-
-fn crosses_threads<T: Send + Sync>() {}
-
-/// Choices may go to another thread and be shared.
-fn choices_cross_threads() {
-    crosses_threads::<Choice>();
-}

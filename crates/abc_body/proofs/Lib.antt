@@ -1,0 +1,4 @@
+pub mod Resting
+pub mod Soundness
+pub mod WorkedRuns
+pub mod Speakings

@@ -1,0 +1,5 @@
+pub mod Packets
+pub mod Carried
+pub mod Logs
+pub mod Outlets
+pub mod Laws
