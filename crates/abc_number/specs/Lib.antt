@@ -1,0 +1,4 @@
+pub mod Draws
+pub mod Counter
+pub mod Bounds
+pub mod Laws

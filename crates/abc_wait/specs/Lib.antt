@@ -1,0 +1,4 @@
+pub mod Waits
+pub mod Changes
+pub mod Windows
+pub mod Laws
