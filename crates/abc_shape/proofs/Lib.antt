@@ -1,0 +1,4 @@
+pub mod Rows
+pub mod Ended
+pub mod Steps
+pub mod Listed

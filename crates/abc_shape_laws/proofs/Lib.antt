@@ -1,0 +1,10 @@
+pub mod Links
+pub mod Trees
+pub mod Routes
+pub mod Flows
+pub mod Clusters
+pub mod Rings
+pub mod TreeFlow
+pub mod TreePaths
+pub mod Counts
+pub mod Sent

@@ -1,0 +1,6 @@
+pub mod LinkLaws
+pub mod Ways
+pub mod RouteLaws
+pub mod Copies
+pub mod CopyLaws
+pub mod Flows
