@@ -1,0 +1,13 @@
+pub mod Links
+pub mod Stored
+pub mod Agents
+pub mod Nodes
+pub mod Stores
+pub mod Rings
+pub mod Trees
+pub mod Networks
+pub mod Numbering
+pub mod Quiets
+pub mod Shapes
+pub mod LinkLaws
+pub mod Worked

@@ -1,0 +1,15 @@
+pub mod Counts
+pub mod Moves
+pub mod Kept
+pub mod Simulation
+pub mod Charges
+pub mod Flows
+pub mod Settling
+pub mod Bounding
+pub mod ClusterFlows
+pub mod StoreFlows
+pub mod StoreCharges
+pub mod RingFlows
+pub mod TreeFlows
+pub mod TreeDepths
+pub mod Statements
