@@ -7,5 +7,5 @@
 mod line;
 mod solo;
 
-pub use line::line_of;
+pub use line::{hearers, line_of, name_at};
 pub use solo::solo_text;

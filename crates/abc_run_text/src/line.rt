@@ -12,7 +12,7 @@ use abc_value::{List, NoMemory};
 use std::alloc::Global;
 
 /// The name of a component; that of number 0 where there is none.
-fn name_at(program: &Program, component: u32) -> Name
+pub fn name_at(program: &Program, component: u32) -> Name
     ensures { result ≡ name_at program.now component }
 {
     match program.components.get(component as usize) {
@@ -21,7 +21,8 @@ fn name_at(program: &Program, component: u32) -> Name
     }
 }
 
-fn hearers(
+/// Those that heard, each by its name with the place of its input.
+pub fn hearers(
     alloc: Global,
     program: &Program,
     heard: &[(u32, u32)],

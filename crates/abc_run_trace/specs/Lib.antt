@@ -1,0 +1,3 @@
+pub mod TraceOf
+pub mod Telling
+pub mod HasTrace
