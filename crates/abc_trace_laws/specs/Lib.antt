@@ -1,0 +1,4 @@
+pub mod Plain
+pub mod Renumbered
+pub mod Laws
+pub mod Examples
