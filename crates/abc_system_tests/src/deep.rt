@@ -1,34 +1,55 @@
 //! Chains as long as the checks let through, which no text has in one piece: they are walked within the
 //! stack.
-ghost use Rattle.std.specs.Prelude.{◌<◌, length};
+ghost use Rattle.std.specs.Prelude.{◌≡◌, length};
 ghost use Rattle.abc_checks.specs.Facts.{IsChecked};
 
-use crate::lives::{hear, look, speak};
+use crate::lives::{hear, speak};
 use abc_checks::check;
 use abc_drafts::{Draft, Mistake};
-use abc_moves::Live;
+use abc_moves::{Label, Live};
 use abc_pred::Name;
 use abc_term::Program;
 use std::alloc::Global;
 use std::process::Abort;
 use std::test::Fail;
 
-/// The first component has that many outputs, and the second that many inputs. The last ones are made.
+/// The first component has that many outputs. The last one is made, and none is left.
+fn speaks_last(rt: &impl Abort, alloc: Global, program: &Program, moves: u32) -> Result<Label, Fail>
+    requires checked { IsChecked program.now }
+    requires two { length program.now.components ≡ 2 }
+{
+    let mut speaker = Live::start(alloc, program, 0)?;
+    assert_eq!(rt; speaker.outputs(), moves);
+    let label = speak(rt, &mut speaker, moves.saturating_sub(1))?;
+    assert_eq!(rt; speaker.outputs(), 0);
+    Ok(label)
+}
+
+/// The second component has that many inputs for the message. The last one is made, and none is left.
+fn hears_last(
+    rt: &impl Abort,
+    alloc: Global,
+    program: &Program,
+    label: &Label,
+    moves: u32,
+) -> Result<(), Fail>
+    requires checked { IsChecked program.now }
+    requires two { length program.now.components ≡ 2 }
+{
+    let mut hearer = Live::start(alloc, program, 1)?;
+    assert_eq!(rt; hearer.inputs(label), moves);
+    hear(rt, &mut hearer, label, moves.saturating_sub(1))?;
+    assert_eq!(rt; hearer.inputs(label), 0);
+    Ok(())
+}
+
+/// The last output and the last input are made.
 fn plays_last(rt: &impl Abort, alloc: Global, program: &Program, moves: u32) -> Result<(), Fail>
     requires { IsChecked program.now }
 {
     assert!(rt; program.components.len() == 2);
-    let mut speaker = Live::start(alloc, program, 0)?;
-    let mut hearer = Live::start(alloc, program, 1)?;
-    assert_eq!(rt; speaker.outputs(), moves);
-    let last = moves.saturating_sub(1);
-    let label = look(rt, &speaker, last)?;
-    assert_eq!(rt; hearer.inputs(&label), moves);
-    hear(rt, &mut hearer, &label, last)?;
-    let said = speak(rt, &mut speaker, last)?;
-    assert_eq!(rt; hearer.inputs(&said), 0);
-    assert_eq!(rt; speaker.outputs(), 0);
-    Ok(())
+    let label = speaks_last(rt, alloc, program, moves)?;
+    hears_last(rt, alloc, program, &label, moves)
 }
 
 /// Checks the program of the draft, and makes its last moves.

@@ -1,4 +1,4 @@
-//! Tests of the steps and runs of whole systems, and of live components alone.
+//! Tests of live components alone, of chains that no text has, and of steps that memory was refused for.
 #![tactic(auto)]
 
 #[cfg(test)]
@@ -9,9 +9,3 @@ mod deep;
 mod lives;
 #[cfg(test)]
 mod memory;
-#[cfg(test)]
-mod refusals;
-#[cfg(test)]
-mod runs;
-#[cfg(test)]
-mod shown;

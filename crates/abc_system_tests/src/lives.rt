@@ -4,8 +4,8 @@ ghost use Rattle.std.specs.Prelude.{◌≡◌, IfOk, length};
 ghost use Rattle.abc_checks.specs.Facts.{IsChecked};
 
 use crate::chosen::program_of;
-use crate::shown::{shown_env, shown_label};
 use abc_moves::{Label, Live};
+use abc_shown::{shown_env, shown_label};
 use abc_term::Program;
 use std::alloc::Global;
 use std::process::Abort;
@@ -98,24 +98,92 @@ fn copies_speak_apart(rt: HostRuntime) -> Result<(), Fail> {
     stands(&rt, alloc, &program, &live, (2, "{n=3;}"))
 }
 
-/// A copy hears apart, and what a component has heard goes with its copy.
+/// A copy that has heard the label.
+fn heard_by_copy<'p>(
+    rt: &impl Abort,
+    alloc: Global,
+    program: &'p Program,
+    live: &Live<'p>,
+    label: &Label,
+) -> Result<Live<'p>, Fail> {
+    let mut copied = live.copy()?;
+    hear(rt, &mut copied, label, 0)?;
+    stands(rt, alloc, program, &copied, (1, "{x=3;}"))?;
+    assert_eq!(rt; copied.inputs(label), 1);
+    Ok(copied)
+}
+
+/// What a component has heard goes with its copy, which speaks apart.
+fn said_by_copy(
+    rt: &impl Abort,
+    alloc: Global,
+    program: &Program,
+    live: &Live<'_>,
+) -> Result<(), Fail> {
+    let mut again = live.copy()?;
+    let said = speak(rt, &mut again, 0)?;
+    says(rt, alloc, program, &said, "(3){x=3;}")?;
+    stands(rt, alloc, program, &again, (0, "{x=3;}"))?;
+    stands(rt, alloc, program, live, (1, "{x=3;}"))
+}
+
+/// What the first component says at its first place.
+fn first_label(rt: &impl Abort, alloc: Global, program: &Program) -> Result<Label, Fail>
+    requires checked { IsChecked program.now }
+    requires two { length program.now.components ≡ 2 }
+{
+    let speaker = Live::start(alloc, program, 0)?;
+    look(rt, &speaker, 0)
+}
+
+fn hears_apart(rt: &impl Abort, alloc: Global, program: &Program, label: &Label) -> Result<(), Fail>
+    requires checked { IsChecked program.now }
+    requires two { length program.now.components ≡ 2 }
+{
+    let live = Live::start(alloc, program, 1)?;
+    let copied = heard_by_copy(rt, alloc, program, &live, label)?;
+    stands(rt, alloc, program, &live, (0, "{x=1;}"))?;
+    assert_eq!(rt; live.inputs(label), 2);
+    said_by_copy(rt, alloc, program, &copied)
+}
+
 #[test]
 fn copies_hear_apart(rt: HostRuntime) -> Result<(), Fail> {
     let alloc = rt.alloc();
     let program = two(&rt, alloc)?;
-    let label = look(&rt, &Live::start(alloc, &program, 0)?, 0)?;
-    let live = Live::start(alloc, &program, 1)?;
-    let mut copied = live.copy()?;
-    hear(&rt, &mut copied, &label, 0)?;
-    stands(&rt, alloc, &program, &copied, (1, "{x=3;}"))?;
-    stands(&rt, alloc, &program, &live, (0, "{x=1;}"))?;
-    assert_eq!(rt; copied.inputs(&label), 1);
-    assert_eq!(rt; live.inputs(&label), 2);
-    let mut again = copied.copy()?;
-    let said = speak(&rt, &mut again, 0)?;
-    says(&rt, alloc, &program, &said, "(3){x=3;}")?;
-    stands(&rt, alloc, &program, &again, (0, "{x=3;}"))?;
-    stands(&rt, alloc, &program, &copied, (1, "{x=3;}"))
+    let label = first_label(&rt, alloc, &program)?;
+    hears_apart(&rt, alloc, &program, &label)
+}
+
+/// What the first component says as it makes its second output, and then its first.
+fn both_said(rt: &impl Abort, alloc: Global, program: &Program) -> Result<(Label, Label), Fail>
+    requires checked { IsChecked program.now }
+    requires two { length program.now.components ≡ 2 }
+{
+    let mut live = Live::start(alloc, program, 0)?;
+    let first = speak(rt, &mut live, 1)?;
+    let second = speak(rt, &mut live, 0)?;
+    assert!(rt; !live.can_speak());
+    Ok((first, second))
+}
+
+/// The second component hears the second message at its second input, and then the first at the one
+/// that is left.
+fn both_heard(
+    rt: &impl Abort,
+    alloc: Global,
+    program: &Program,
+    first: &Label,
+    second: &Label,
+) -> Result<(), Fail>
+    requires checked { IsChecked program.now }
+    requires two { length program.now.components ≡ 2 }
+{
+    let mut other = Live::start(alloc, program, 1)?;
+    hear(rt, &mut other, second, 1)?;
+    hear(rt, &mut other, first, 0)?;
+    assert_eq!(rt; other.inputs(first), 0);
+    stands(rt, alloc, program, &other, (1, "{x=2;}"))
 }
 
 /// A place that isn't there any more is none after each move, and an input that was made takes no message.
@@ -123,15 +191,8 @@ fn copies_hear_apart(rt: HostRuntime) -> Result<(), Fail> {
 fn moves_are_made_once(rt: HostRuntime) -> Result<(), Fail> {
     let alloc = rt.alloc();
     let program = two(&rt, alloc)?;
-    let mut live = Live::start(alloc, &program, 0)?;
-    let first = speak(&rt, &mut live, 1)?;
+    let (first, second) = both_said(&rt, alloc, &program)?;
     says(&rt, alloc, &program, &first, "(2){n=3;}")?;
-    let second = speak(&rt, &mut live, 0)?;
     says(&rt, alloc, &program, &second, "(3){n=3;}")?;
-    assert!(rt; !live.can_speak());
-    let mut other = Live::start(alloc, &program, 1)?;
-    hear(&rt, &mut other, &second, 1)?;
-    hear(&rt, &mut other, &first, 0)?;
-    assert_eq!(rt; other.inputs(&first), 0);
-    stands(&rt, alloc, &program, &other, (1, "{x=2;}"))
+    both_heard(&rt, alloc, &program, &first, &second)
 }

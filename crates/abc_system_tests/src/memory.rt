@@ -2,9 +2,9 @@
 //! whichever allocation fails.
 ghost use Rattle.abc_checks.specs.Facts.{IsChecked};
 
-use crate::chosen::{choice_of, program_of};
-use crate::shown::shown_run;
+use crate::chosen::program_of;
 use abc_packet::Choice;
+use abc_shown::{choice_of, shown_run};
 use abc_system::{Run, StepRow, System};
 use abc_term::Program;
 use abc_value::{List, NoMemory, ShortText};
@@ -45,19 +45,19 @@ const RUNS: [(&[u8], u64, [&str; 3], &str); 3] = [
     (
         CALLS,
         0,
-        ["0.0 1.0", "1.0 0.0", "0.0 1.0"],
+        ["0.0,1.0", "1.0,0.0", "0.0,1.0"],
         "0:0 (\"ping\", 0){kind=\"ping\";} -> 1:0; 1:0 (\"pong\", 0){kind=\"pong\";} -> 0:0; 0:0 (\"ping\", 1){kind=\"ping\";} -> 1:0; {n=2;kind=\"ping\";}{n=1;kind=\"pong\";} speaks",
     ),
     (
         SETS,
         0,
-        ["0.0 1.0 2.0", "0.0 1.0 2.0", "0.0 1.0 2.0"],
+        ["0.0,1.0,2.0", "0.0,1.0,2.0", "0.0,1.0,2.0"],
         "0:0 ({1, 2, 3}, 1, {}){s={1, 2, 3};} -> 1:0 2:0; 0:0 (3, 0, 0){s={1, 2, 3};} -> 1:0 2:0; 0:0 ({0, 1, 2, 3, \"x\", true}, {1, 3}, {-1, \"\", \"b\", false}){s={1, 2, 3};} -> 1:0 2:0; {s={1, 2, 3};u={};}{a={0, 1, 2, 3, \"x\", true};b={1, 3};c={-1, \"\", \"b\", false};}{a={0, 1, 2, 3, \"x\", true};b={1, 3};c={-1, \"\", \"b\", false};} speaks",
     ),
     (
         HEARERS,
         5,
-        ["0.0 1.2 2.1", "0.0 1.0", "0.0 1.0"],
+        ["0.0,1.2,2.1", "0.0,1.0", "0.0,1.0"],
         "0:0 (1){kind=\"x\";} -> 1:2 2:1; 0:0 (2){kind=\"x\";} -> 1:0; 0:0 (3){kind=\"x\";} -> 1:0; {kind=\"x\";}{p=2;r=3;s=1;}{m=1;} silent",
     ),
 ];
@@ -133,26 +133,52 @@ fn shown_again(
     }
 }
 
-/// The program's first three steps, by the pick, or by the choices where they are to tell.
+/// The first three steps, by the pick, or by the choices where they are to tell.
+fn steps_made(
+    rt: &impl Abort,
+    alloc: Global,
+    system: &mut System<'_>,
+    pick: u64,
+    choices: &[&str; 3],
+    by_choices: bool,
+) -> Result<List<StepRow>, Fail> {
+    let mut steps = room(alloc)?;
+    for (made, words) in choices.iter().enumerate() {
+        let choice = choice_again(alloc, words)?;
+        let told = if by_choices { Some(&choice) } else { None };
+        match step_again(system, pick, made as u32, told)? {
+            Some(row) => steps.push(row)?,
+            None => assert!(rt; false, "no step {choice:?}"),
+        }
+    }
+    Ok(steps)
+}
+
+/// The program's first three steps, as a text.
+fn run_made(
+    rt: &impl Abort,
+    alloc: Global,
+    program: &Program,
+    run: &(&[u8], u64, [&str; 3], &str),
+    by_choices: bool,
+) -> Result<List<u8>, Fail>
+    requires { IsChecked program.now }
+{
+    let (_, pick, choices, _) = run;
+    let mut system = start(alloc, program)?;
+    let steps = steps_made(rt, alloc, &mut system, *pick, choices, by_choices)?;
+    Ok(shown_again(alloc, program.names.as_slice(), &system, steps)?)
+}
+
 fn runs_so(
     rt: &impl Abort,
     alloc: Global,
     run: &(&[u8], u64, [&str; 3], &str),
     by_choices: bool,
 ) -> Result<(), Fail> {
-    let (text, pick, choices, wanted) = run;
+    let (text, _, _, wanted) = run;
     let program = program_of(rt, alloc, text)?;
-    let mut system = start(alloc, &program)?;
-    let mut steps = room(alloc)?;
-    for (made, words) in choices.iter().enumerate() {
-        let choice = choice_again(alloc, words)?;
-        let told = if by_choices { Some(&choice) } else { None };
-        match step_again(&mut system, *pick, made as u32, told)? {
-            Some(row) => steps.push(row)?,
-            None => assert!(rt; false, "no step {choice:?}"),
-        }
-    }
-    let line = shown_again(alloc, program.names.as_slice(), &system, steps)?;
+    let line = run_made(rt, alloc, &program, run, by_choices)?;
     let found = line.as_slice();
     assert!(rt; found == wanted.as_bytes(), "{found:?} for {wanted:?}");
     Ok(())
