@@ -13,7 +13,8 @@ pub fn links_are_their_numbers()
     ensures count { NumbersAreBelow }
 {}
 
-/// A node has one route to an agent. The routes lead to the agent from every node, and never back.
+/// A node has one route to an agent. The routes lead to the agent from every node, in a ring from its
+/// home, and none leads straight back.
 pub fn routes_arrive()
     ensures one { RoutesAreOne }
     ensures arrive { RoutesArrive }
