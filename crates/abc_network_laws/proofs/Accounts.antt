@@ -39,7 +39,7 @@ over-put f l x [] = omega arith
 over-put f zero x (q ∷ qs) = let t = total-append (λ y. f zero y.packet) q (x ∷ []) in omega arith
 over-put f (suc l) x (q ∷ qs) = let t = over-put (λ k. f (suc k)) l x qs in omega arith
 
--- Exact, where the link is there.
+-- It adds just its charge, where the link is there.
 pub over-put-exact : {L : Type 0} (f : ℕ → Packet L →
     ℕ) (l : ℕ) (x : Stamped L) (qs : List (List (Stamped L))) → l < length qs →
     on_links f (put_on l x qs) ≡ on_links f qs + f l x.packet
@@ -93,7 +93,7 @@ over-taken f here (Turned n place content) links left h = let e = ap (on_links f
 over-taken f here (Passed n) links left h = let e = ap (on_links f) h in omega arith
 
 module _ {B L N : Type 0} (m : Meaning B L) (r : Rules L N) (c : Charge B L N) where
-  -- The accounts of a step.
+  -- A step changes the charge of the network at most by what it changes at its agent and on links.
   pub account-agent : (w w' : Net B L N) (i : ℕ) (e : Entry L) (s : AgentStep m r w i e w') →
       charge c w' + (c.on_agent i s.old.state
       + of_packets c.on_link (taken_at e.deed)) ≤ charge c w
@@ -116,7 +116,7 @@ module _ {B L N : Type 0} (m : Meaning B L) (r : Rules L N) (c : Charge B L N) w
       let f = ap (on_links c.on_link) s.links in
       let g = ap (over (λ i a. c.on_agent i a.state)) s.rest in omega arith
 
-  -- Exact, where each packet is sent on a link that is there.
+  -- The change is just that, where each packet is sent on a link that is there.
   pub exact-agent : (w w' : Net B L N) (i : ℕ) (e : Entry L) (s : AgentStep m r w i e w') →
       Each (λ x. x.0 < length s.left) s.sends →
       charge c w' + (c.on_agent i s.old.state + of_packets c.on_link (taken_at e.deed))

@@ -61,7 +61,7 @@ swap-on F (suc l) x q (a ∷ rest) (b ∷ bs) s h =
     let r = swap-on (λ k. F (suc k)) l x q rest bs s.1 h.1 in
     (r.0, (subst (Each (λ y. F zero y.packet)) (sym s.0) h.0, r.1))
 
--- The bit of a number at itself.
+-- A number counts for itself: 1 where two numbers are the same.
 same-one : (i : ℕ) → (let b = i == i in let v : ℕ = if b then 1 else 0 in v) ≡ 1
 same-one i = rw (eq-eqb i i refl) refl
 

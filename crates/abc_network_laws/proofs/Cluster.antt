@@ -16,7 +16,7 @@ use Rattle.abc_network.specs.Networks.{drawn_in}
 use Rattle.abc_network.specs.Links.{to_agent}
 
 module _ {L : Type 0} (agents nodes k : ℕ) where
-  -- A copy more, or none.
+  -- What holds of a list and of one more packet holds of the list with or without it.
   if-copies : (P : ℕ × Packet L → Type 0) (b : Bool) (x : ℕ × Packet L)
       (xs : List (ℕ × Packet L)) → P x → Each P xs → Each P (if b then xs else x ∷ xs)
   if-copies P true x xs p h = h

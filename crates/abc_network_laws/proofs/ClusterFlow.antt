@@ -147,7 +147,7 @@ module _ {L : Type 0} (agents nodes limit pick : ℕ) (some : 0 < nodes) where
     links_are = refl;
   }
 
-  -- The copies that a node sends.
+  -- What one agent of a list adds to the copies that lead to a goal.
   one-copy : (n m sender k i count : ℕ) (content : Content L) (goal : Goal) (b : Bool) →
       (i == sender) ≡ b → of_packets (message_on (cluster_leads agents nodes) n goal)
       (copies_from nodes k sender i (suc count) (Message m sender content))

@@ -24,7 +24,7 @@ use Rattle.abc_network_laws.specs.ClusterFlows.{asking_worth, cluster_charge}
 
 module _ {B L : Type 0} (m : Meaning B L) (agents nodes limit pick worth : ℕ)
     (big : worth ≡ 15 + 2 * agents + 2 * nodes) (some : 0 < nodes) where
-  -- What a packet is worth.
+  -- What a packet on a link is worth, for these sizes.
   abbrev weight : ℕ → Packet L → ℕ
   weight l p = cluster_weight worth agents l p
 

@@ -14,7 +14,7 @@ lives-more m i b b' (t ∷ ts) us [] h = h
 lives-more m i b b' [] us (p ∷ ps) h = absurd h
 lives-more m i b b' (t ∷ ts) us (p ∷ ps) h = (h.0, h.1, lives-more m i h.0 b' ts us ps h.2)
 
--- One move more.
+-- A component that made its moves and then one more made them all.
 pub lives-next : {B L : Type 0} (m : Meaning B L) (i : ℕ) (b b' b'' : B) (ts : List (Turn L))
     (ps : List (Option ℕ)) (t : Turn L) (p : Option ℕ) → Lives m i b ts ps b' →
     slice_get ts (length ps) ≡ Some t → Moves m i t p b' b'' → Lives m i b ts (ps ++ p ∷ []) b''

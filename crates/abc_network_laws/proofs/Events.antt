@@ -30,7 +30,7 @@ use Rattle.abc_network_laws.proofs.Holds.{on-taken, agent-not-stray, node-not-st
 use Rattle.abc_network_laws.proofs.Holds.{placed-node}
 use Rattle.abc_network_laws.proofs.Settles.{none-on, over-zero, get-same, placed-start}
 
--- A product by parts.
+-- A sum of two counts, each times the worth of one.
 scaled : (a b c worth : ℕ) → a + b ≡ c → a * worth + b * worth ≡ c * worth
 scaled a b c worth e = grind (arith, e)
 
@@ -64,7 +64,7 @@ over-same f v (b ∷ bs) h =
 module _ {B L N : Type 0} (m : Meaning B L) (r : Rules L N) (f : Flow L N) (ways : Ways f r)
     (carries : Carries f r) (ends : Ends f r) (relays : Relays r.node) (bodies : List B)
     (worth : ℕ) (c : Charge B L N) (pays : Pays m r f worth c) where
-  -- What is left to be done.
+  -- What is still to be paid: the charge of the network, and the worth of each number not drawn.
   abbrev ahead : Net B L N → ℕ
   ahead w = charge c w + undrawn r.limit w.drawn * worth
 
@@ -133,7 +133,7 @@ module _ {B L N : Type 0} (m : Meaning B L) (r : Rules L N) (f : Flow L N) (ways
       (within-draws r.limit w.drawn run.0.drawn (drawn_in e.deed) s.draws inside) in
       let u = ahead-node w run.0 j e ts run.1 ok k p inside in omega arith
 
-  -- What is laid on the start.
+  -- What is to be paid at the start.
   ahead-start : length bodies ≡ r.plan.agents →
       ahead (start_of r bodies) ≡ 15 * r.plan.agents + r.limit * worth
   ahead-start many =

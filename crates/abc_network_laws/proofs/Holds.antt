@@ -34,7 +34,7 @@ use Rattle.abc_network_laws.proofs.Accounts.{exact-agent, exact-node, length-put
 use Rattle.abc_network_laws.proofs.Astray.{swap-on, none-astray, none-astray-node}
 use Rattle.abc_network_laws.proofs.Places.{agent-copies, born, bit-yes, bit-no}
 
--- A sum under a bit.
+-- Two sums that are the same, each part of which counts for agent a alone.
 bits : (i a p q u v : ℕ) → p + q ≡ u + v → (i ≡ a) ⊎ (i ≡ a → ⊥) →
     (if i == a then p else 0) + (if i == a then q else 0)
     ≡ (if i == a then u else 0) + (if i == a then v else 0)
@@ -43,7 +43,7 @@ bits i a p q u v e (inl s) = let b = bit-yes i a p s in let c = bit-yes i a q s 
 bits i a p q u v e (inr s) = let b = bit-no i a p s in let c = bit-no i a q s in
     let d = bit-no i a u s in let g = bit-no i a v s in omega arith
 
--- Nothing under a bit.
+-- Nothing, whether it counts or not.
 zero-bit : (i a : ℕ) → (let u : ℕ = if i == a then 0 else 0 in u) ≡ 0
 zero-bit i a = elim (cases_eq i a) [ inl s ↦ bit-yes i a 0 s | inr s ↦ bit-no i a 0 s ]
 
@@ -157,7 +157,7 @@ agent-fits m r f ways i among s s' (Turned k place content) sends h =
     )
 agent-fits m r f ways i among s s' (Passed k) sends h = absurd h
 
--- Links.
+-- What all packets on links have, all have with one more that has it.
 on-put : {L : Type 0} (F : ℕ → Packet L →
     Type 0) (l : ℕ) (x : Stamped L) (qs : List (List (Stamped L))) → EachOn F qs → F l x.packet →
     EachOn F (put_on l x qs)
@@ -165,7 +165,7 @@ on-put F l x [] h p = tt
 on-put F zero x (q ∷ qs) h p = (each-append (λ y. F zero y.packet) q (x ∷ []) h.0 (p, tt), h.1)
 on-put F (suc l) x (q ∷ qs) h p = (h.0, on-put (λ k. F (suc k)) l x qs h.1 p)
 
--- So do those that are sent.
+-- The same for packets that are sent.
 on-sent : {L : Type 0} (F : ℕ → Packet L →
     Type 0) (clock : ℕ) (sends : List (ℕ × Packet L)) (qs : List (List (Stamped L))) →
     EachOn F qs → Each (λ x. F x.0 x.1) sends → EachOn F (sent clock sends qs)
@@ -197,7 +197,7 @@ on-taken F here (Turned n place content) links left h k =
     (tt, subst (EachOn F) (sym h) k, ap length h)
 on-taken F here (Passed n) links left h k = (tt, subst (EachOn F) (sym h) k, ap length h)
 
--- Live, as a charge.
+-- The replies with a number on links, as a charge.
 links-live : {L : Type 0} (n : ℕ) (links : List (List (Stamped L))) →
     total (total (on_link n)) links ≡ on_links (λ l p. replies_number n p) links
 links-live n [] = refl
@@ -209,7 +209,7 @@ agents-live : {B L : Type 0} (n : ℕ) (agents : List (Actor (AgentState B L) L)
 agents-live n [] = refl
 agents-live n (a ∷ rest) = let e = agents-live n rest in omega arith
 
--- Nothing adds up to nothing.
+-- A sum of nothing is nothing.
 over-none : {X : Type 0} (xs : List X) → over (λ i x. 0) xs ≡ 0
 over-none [] = refl
 over-none (x ∷ xs) = let e = over-none xs in omega arith

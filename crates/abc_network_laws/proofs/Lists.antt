@@ -28,7 +28,7 @@ swap-each P zero x y (a ∷ rest) (b ∷ bs) s h p = (subst P (sym s.1) p, subst
 swap-each P (suc i) x y (a ∷ rest) (b ∷ bs) s h p =
     (subst P (sym s.0) h.0, swap-each P i x y rest bs s.1 h.1 p)
 
--- The one that changes had it.
+-- What all have, the one that changes had.
 pub swap-had : {X : Type 0} (P : X → Type 0) (i : ℕ) (x y : X) (xs ys : List X) →
     Swaps i x y xs ys → Each P xs → P x
 swap-had P i x y [] ys s h = absurd s
@@ -78,7 +78,7 @@ swap-total f zero x y (a ∷ rest) (b ∷ bs) s = let p : f a ≡ f x = ap f s.0
 swap-total f (suc i) x y (a ∷ rest) (b ∷ bs) s = let p : f b ≡ f a = ap f s.0 in
     let t = swap-total f i x y rest bs s.1 in omega arith
 
--- The sum over two lists.
+-- The sum over two lists is that over both.
 pub total-append : {X : Type 0} (f : X → ℕ) (xs ys : List X) →
     total f (xs ++ ys) ≡ total f xs + total f ys
 total-append f [] ys = omega arith
@@ -152,7 +152,7 @@ get-within [] k x h = absurd (cc)
 get-within (a ∷ xs) zero x h = omega arith
 get-within (a ∷ xs) (suc k) x h = let g = get-within xs k x h in omega arith
 
--- One more is one longer.
+-- A list with one more is one longer.
 pub length-push : {X : Type 0} (xs : List X) (y : X) → length (xs ++ y ∷ []) ≡ length xs + 1
 length-push [] y = refl
 length-push (a ∷ xs) y = let g = length-push xs y in omega arith

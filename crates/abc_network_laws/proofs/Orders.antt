@@ -28,6 +28,7 @@ counts-push k n (x ∷ xs) h e = (
   counts-push (k + 1) n xs h.1 (let z : n ≡ k + suc (length xs) + 1 = e in omega arith),
 )
 
+-- A list with one number more is one longer.
 length-one : (ns : List ℕ) (n : ℕ) → length (ns ++ n ∷ []) ≡ length ns + 1
 length-one [] n = refl
 length-one (x ∷ xs) n = let e = length-one xs n in omega arith
@@ -39,6 +40,7 @@ taken-append [] fs = refl
 taken-append (e ∷ es) fs = ap (λ v. taken_number e.deed ++ v) (taken-append es fs)
     ∙ sym (append-append (taken_number e.deed) (taken_numbers es) (taken_numbers fs))
 
+-- A log with one entry more has the number of that entry more.
 taken-push : {L : Type 0} (es : List (Entry L)) (e : Entry L) →
     taken_numbers (es ++ e ∷ []) ≡ taken_numbers es ++ taken_number e.deed
 taken-push es e = taken-append es (e ∷ [])
@@ -69,6 +71,7 @@ module _ {B L : Type 0} (m : Meaning B L) (pick : ℕ) (way : ℕ → ℕ) (i : 
   granted-front s s' (Number n) h = ap (λ v. v.front) h.2
   granted-front s s' Closed h = ap (λ v. v.front) h
 
+  -- The same for each packet that an agent takes.
   takes-front : (s s' : AgentState B L) (p : Packet L) → AgentTakes i s p s' → s'.front ≡ s.front
   takes-front s s' (Request a) h = absurd h
   takes-front s s' (Reply a g) h = granted-front s s' g h.2
@@ -130,6 +133,7 @@ module _ {B L N : Type 0} (m : Meaning B L) (r : Rules L N) where
       let s = run.1 in ordered-run es run.0 w' run.2
       (λ j a at. o j a (subst (λ v. slice_get v j ≡ Some a) s.rest at))
 
+  -- So all agents are in order in every run from the start.
   pub in-order : (bodies : List B) (es : List (Event L)) (w' : Net B L N) →
       Netrun m r (start_of r bodies) es w' → AllOrdered w'
   in-order bodies es w' run = ordered-run es (start_of r bodies) w' run

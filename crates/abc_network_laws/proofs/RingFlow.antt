@@ -16,15 +16,15 @@ use Rattle.abc_network_laws.specs.RingFlows.{outs_on}
 use Rattle.abc_network_laws.proofs.Lists.{total-append}
 use Rattle.abc_network_laws.proofs.Places.{bit-yes, bit-no, early-bit, late-bit}
 
--- Distances, with no remainder.
+-- How far node k is from h, where it is not before it,
 far-up : (n h k : ℕ) → h ≤ k → far n h k ≡ k - h
 far-up n h k e = rw (le-ltb k h e) refl
 
--- Further on past the last node.
+-- and where it is, on the way round.
 far-round : (n h k : ℕ) → k < h → far n h k ≡ k + n - h
 far-round n h k e = rw (lt-ltb k h e) refl
 
--- One of both.
+-- So it is one of both.
 far-is : (n h k : ℕ) → ((h ≤ k) × (far n h k ≡ k - h)) ⊎ ((k < h) × (far n h k ≡ k + n - h))
 far-is n h k = elim (cases_lt k h) [
   | inl e ↦ inr (e, far-round n h k e)
@@ -166,7 +166,7 @@ behind-home n h g v a c =
           let z = early-bit (far n h h) (far n h g) v (omega arith) in omega arith)
     ]
 
--- Numbers of links.
+-- The numbers of links, read back: the link to an agent.
 pub down-at : (agents i : ℕ) → i < agents → link_at agents (2 * i + 1) ≡ Down i
 down-at agents i low =
     let a : nat_lt (2 * i + 1) (2 * agents) ≡ true =
@@ -202,7 +202,7 @@ module _ (agents n k s : ℕ) (goal : Goal) where
   down-leads : (i : ℕ) → i < agents → ring_leads agents n s (2 * i + 1) goal ≡ at_agent i goal
   down-leads i low = ap (λ v. ring_leads_on agents n s v goal) (down-at agents i low)
 
-  -- One agent of the list.
+  -- What one agent of the list adds to the copies that lead to a goal.
   homed-step : (i count : ℕ) (b c : Bool) → (i == s) ≡ b → (i % n == k) ≡ c → i < agents →
       sum-of (homed_from (layout_of Ring agents n) k s i (suc count))
       ≡ (if b then 0 else (if c then at_agent i goal else 0))
@@ -273,7 +273,7 @@ tail-total : (f : ℕ → ℕ) (b : Bool) (x : ℕ) →
 tail-total f true x = refl
 tail-total f false x = omega arith
 
--- Nothing either way.
+-- Nothing, whether it counts or not.
 zero-if : (b : Bool) → (let u : ℕ = if b then 0 else 0 in u) ≡ 0
 zero-if true = refl
 zero-if false = refl

@@ -43,7 +43,7 @@ over-zero f [] h = refl
 over-zero f (x ∷ xs) h = let a = h zero x refl in
     let b = over-zero (λ i. f (suc i)) xs (λ i y at. h (suc i) y at) in omega arith
 
--- One idle agent at its place.
+-- What counts for one agent alone counts once in the sum over all that start.
 one-idle : (B L : Type 0) (g : ℕ → ℕ) (a : ℕ) (bodies : List B) → g a ≡ 1 →
     ((i : ℕ) → (i ≡ a → ⊥) → g i ≡ 0) → a < length bodies →
     over {X = Actor (AgentState B L) L} (λ i x. g i) (map starting bodies) ≡ 1
@@ -66,7 +66,7 @@ get-start [] i a h = absurd (cc)
 get-start (b ∷ bs) zero a h = (b, cc)
 get-start (b ∷ bs) (suc i) a h = get-start bs i a h
 
--- Nothing under a bit.
+-- Nothing, whether it counts or not.
 no-bit : (i j : ℕ) → (let u : ℕ = if i == j then 0 else 0 in u) ≡ 0
 no-bit i j = elim (cases_eq i j) [ inl e ↦ bit-yes i j 0 e | inr e ↦ bit-no i j 0 e ]
 
@@ -104,12 +104,12 @@ idle-asks a (x ∷ xs) g h =
     ap (λ v. let u : ℕ = if g zero == a then not_waiting v else 0 in u) (h zero x refl) in
     let rest = idle-asks a xs (λ i. g (suc i)) (λ i y at. h (suc i) y at) in omega arith
 
--- So many are so many.
+-- A list of so many has this length.
 length-same : {X : Type 0} (x : X) (n : ℕ) → length (replicate n x) ≡ n
 length-same x zero = refl
 length-same x (suc n) = let e = length-same x n in omega arith
 
--- All of them are the one.
+-- Each of a list of the same is that one.
 pub get-same : {X : Type 0} (x y : X) (n k : ℕ) → slice_get (replicate n x) k ≡ Some y →
     (k < n) × (y ≡ x)
 get-same x y zero k at = absurd (cc)

@@ -24,7 +24,7 @@ use Rattle.abc_network_laws.proofs.Steps.{live-agent}
 use Rattle.abc_network_laws.proofs.Orders.{in-order}
 use Rattle.abc_network_laws.proofs.Keeps.{keeps-agent, keeps-node, keeps-run, ready-of}
 
--- The start.
+-- An agent at the start is one that starts with its body.
 get-starting : {B L : Type 0} (bodies : List B) (i : ℕ) (a : Actor (AgentState B L) L) →
     slice_get (map starting bodies) i ≡ Some a →
     (b : B) × (slice_get bodies i ≡ Some b) × (a ≡ starting b)
@@ -93,7 +93,7 @@ kept-start {B} {L} {N} m r bodies none = record {
   turned = λ n low high. absurd (let h : n ≤ 0 = high in omega arith);
 }
 
--- From each place to the lists.
+-- What each component lived, found by its place, is what all of them lived.
 each-lives : {B L : Type 0} (m : Meaning B L) (ts : List (Turn L)) (k : ℕ) (bs : List B)
     (agents : List (Actor (AgentState B L) L)) → length agents ≡ length bs →
     ((j : ℕ) (b : B) (a : Actor (AgentState B L) L) → slice_get bs j ≡ Some b →
@@ -119,7 +119,7 @@ each-front [] h = refl
 each-front (a ∷ rest) h = let e : length (places_of a.log) ≡ a.state.front = h zero a refl in
     let es = each-front rest (λ j b at. h (suc j) b at) in cc
 
--- The numbers turned.
+-- The numbers turned count on after one more deed.
 counts-with : {B L : Type 0} (m : Meaning B L) (pick : ℕ) (way : ℕ →
     ℕ) (i : ℕ) (ts : List (Turn L)) (s s' : AgentState B L) (d : Deed L)
     (sends : List (ℕ × Packet L)) (ns : List ℕ) → AgentDoes m pick way i s d sends s' →

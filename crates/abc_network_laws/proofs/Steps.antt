@@ -64,7 +64,7 @@ taken-each P here (Turned n place content) links left h k =
     (tt, subst (Each (Each (λ x. P x.packet))) (sym h) k)
 taken-each P here (Passed n) links left h k = (tt, subst (Each (Each (λ x. P x.packet))) (sym h) k)
 
--- Draws.
+-- How often a number was drawn after a draw.
 pub draws-times : (n limit : ℕ) (drawn drawn' : List ℕ) (g : Option Grant) →
     Draws limit drawn g drawn' → times n drawn' ≡ times n drawn + draws_number n g
 draws-times n limit drawn drawn' None h = let e = ap (times n) h in omega arith
@@ -77,7 +77,7 @@ draws-if : (n k : ℕ) (drawn : List ℕ) (b : Bool) (v : ℕ) → v ≡ (if b t
 draws-if n k drawn true v w e h = inr (w, subst (λ u. times u drawn ≡ 0) (eqb-true k n e) h)
 draws-if n k drawn false v w e h = inl w
 
--- The same for each draw.
+-- A draw gives no number, or one that was not drawn.
 pub draws-fresh : (n limit : ℕ) (drawn drawn' : List ℕ) (g : Option Grant) →
     Draws limit drawn g drawn' → (draws_number n g ≡ 0)
     ⊎ ((draws_number n g ≡ 1) × (times n drawn ≡ 0))
@@ -86,7 +86,7 @@ draws-fresh n limit drawn drawn' (Some Closed) h = inl refl
 draws-fresh n limit drawn drawn' (Some (Number k)) h =
     draws-if n k drawn (k == n) (grants_number n (Number k)) refl refl h.2
 
--- The log.
+-- To append nothing changes nothing.
 pub append-nil : {X : Type 0} (xs : List X) → xs ++ [] ≡ xs
 append-nil [] = refl
 append-nil (x ∷ xs) = ap (λ v. x ∷ v) (append-nil xs)
@@ -129,7 +129,7 @@ draws-none m pick way i s s' (Took n place) sends h = refl
 draws-none m pick way i s s' (Turned n place content) sends h = refl
 draws-none m pick way i s s' (Passed n) sends h = refl
 
--- The bit of a number at itself.
+-- A number counts for itself: 1 where two numbers are the same.
 pub bit-same : (n k : ℕ) → n ≡ k → (let b = k == n in let v : ℕ = if b then 1 else 0 in v) ≡ 1
 bit-same n k e = rw (eq-eqb k n (sym e)) refl
 

@@ -366,7 +366,7 @@ module _ {L : Type 0} (g : Kind L) (plan : Layout) (laws : KindLaws g plan) wher
       item_beside s.stored n ≡ Some i → P n i.sender i.content
   held-items P s h n i at = h n i.sender i.content (i, at, refl, refl)
 
-  -- And back.
+  -- And back: what holds of each item under its number holds of all that the store holds.
   items-held : (P : ℕ → ℕ → Content L → Type 0) (s : Store L) →
       ((n : ℕ) (i : Item L) → item_beside s.stored n ≡ Some i → P n i.sender i.content) → Held P s
   items-held P s h n sender content has =

@@ -19,7 +19,7 @@ sum-less zero f g h = omega arith
 sum-less (suc n) f g h = let a = h n (omega arith) in
     let b = sum-less n f g (λ j low. h j (omega arith)) in omega arith
 
--- A sum of sums.
+-- The sum of two terms is the sum of their sums.
 pub sum-add : (n : ℕ) (f g : ℕ → ℕ) → sum_below n (λ j. f j + g j) ≡ sum_below n f + sum_below n g
 sum-add zero f g = refl
 sum-add (suc n) f g = let b = sum-add n f g in omega arith
@@ -55,7 +55,7 @@ sum-total n F [] = sum-zero n
 sum-total n F (l ∷ ls) = sum-add n (F l) (λ j. total (λ o. F o j) ls)
     ∙ ap (λ v. sum_below n (F l) + v) (sum-total n F ls)
 
--- One summand changes.
+-- The sum changes by the one term that changes.
 pub sum-change : (n m : ℕ) (f g : ℕ → ℕ) → m < n → ((j : ℕ) → (m ≡ j → ⊥) → g j ≡ f j) →
     sum_below n g + f m ≡ sum_below n f + g m
 sum-change zero m f g low h = absurd (omega arith)

@@ -19,7 +19,7 @@ use Rattle.abc_network_laws.proofs.Places.{bit-yes, bit-no, early-bit, late-bit}
 use Rattle.abc_network_laws.proofs.TreeUnder.{by-less, under-parts, under-root, under-once}
 use Rattle.abc_network_laws.proofs.TreeLinks.{TreeEnd}
 
--- Numbers of links.
+-- The numbers of links, read back: the link from an agent.
 pub up-at : (agents i : ℕ) → i < agents → edge_at agents (2 * i) ≡ Up i
 up-at agents i low =
     let a : nat_lt (2 * i) (2 * agents) ≡ true = lt-ltb (2 * i) (2 * agents) (omega arith) in
@@ -68,7 +68,7 @@ module _ (agents n s : ℕ) (goal : Goal) where
   down-leads : (i : ℕ) → i < agents → tree_leads agents n s (from_home i) goal ≡ at_agent i goal
   down-leads i low = ap (λ v. tree_leads_on agents n v goal) (down-at agents i low)
 
-  -- One agent of the list.
+  -- What one agent of the list adds to the copies that lead to a goal.
   agents-step : (k came i count : ℕ) (b c : Bool) → (i % n == k) ≡ b → (came == to_home i) ≡ c →
       i < agents → sum-of (agents_of (layout_of Tree agents n) k came i (suc count))
       ≡ (if b then (if c then 0 else at_agent i goal) else 0)
@@ -121,7 +121,7 @@ module _ (agents n s : ℕ) (goal : Goal) where
   child-out : (c came : ℕ) → n ≤ c → sum-of (child_of (layout_of Tree agents n) c came) ≡ 0
   child-out c came high = let a : nat_lt c n ≡ false = le-ltb c n high in rw a refl
 
-  -- All parts together.
+  -- What all copies add is what those to agents, to the parent and to the children add.
   outs-sum : (k came : ℕ) → lead_all (tree_leads agents n) s goal
       (tree_outs (layout_of Tree agents n) k s came)
       ≡ sum-of (agents_of (layout_of Tree agents n) k came 0 agents)
@@ -193,7 +193,7 @@ below-inside agents n c (ToNode j) = let u = under-once c j in elim (cases_lt j 
   | inr e ↦ (let a = late-bit j n (under c j) e in let b = late-bit j n 1 e in omega arith)
 ]
 
--- A bit read from either side.
+-- A node counts for its own goal, whichever of both numbers is asked first.
 node-bit : (k j : ℕ) → at_node k (ToNode j) ≡ (if j == k then 1 else 0)
 node-bit k j = elim (cases_eq k j) [
   | inl e ↦ bit-yes k j 1 e ∙ sym (bit-yes j k 1 (sym e))

@@ -29,11 +29,11 @@ by-root : (f k : ℕ) → k ≡ 0 → depth_by f k ≡ 0
 by-root zero k e = refl
 by-root (suc f) k e = let z : (k == 0) ≡ true = eq-eqb k 0 e in rw z refl
 
--- Elsewhere there is one.
+-- Elsewhere the way up is one longer than from the parent.
 by-more : (f k : ℕ) → (k ≡ 0 → ⊥) → depth_by (suc f) k ≡ 1 + depth_by f ((k - 1) / 2)
 by-more f k e = let z : (k == 0) ≡ false = ne_eqb k 0 e in rw z refl
 
--- Steps enough are enough.
+-- The way up is the same for every fuel that is enough.
 by-same : (f g k : ℕ) → k ≤ f → k ≤ g → depth_by f k ≡ depth_by g k
 by-same zero g k a b = sym (by-root g k (omega arith))
 by-same (suc f) zero k a b = by-root (suc f) k (omega arith)

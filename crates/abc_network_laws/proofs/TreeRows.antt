@@ -37,7 +37,7 @@ not-cluster : Tree ≡ Cluster → ⊥
 not-cluster e = cc
 
 module _ (agents nodes : ℕ) where
-  -- How many links there are.
+  -- How many links a tree of these sizes has.
   abbrev links : ℕ
   links = link_count (layout_of Tree agents nodes)
 

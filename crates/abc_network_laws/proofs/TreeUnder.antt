@@ -6,7 +6,7 @@ use Rattle.std.proofs.lemmas.Bool.{eq-eqb, ne_eqb, cases_eq, cases_lt}
 use Rattle.abc_network_laws.specs.TreeFlows.{under_by, under}
 use Rattle.abc_network_laws.proofs.Places.{bit-yes, bit-no}
 
--- A step up.
+-- A node is under itself.
 by-same : (f c g : ℕ) → g ≡ c → under_by f c g ≡ 1
 by-same zero c g e = let z : (g == c) ≡ true = eq-eqb g c e in rw z refl
 by-same (suc f) c g e = let z : (g == c) ≡ true = eq-eqb g c e in rw z refl
@@ -63,7 +63,7 @@ parts-up f k g ne nz ih (inr a) (inr b) =
     ]) in
     let z = bit-no ((g - 1) / 2) k 1 away in omega arith
 
--- With the same fuel on each side.
+-- Under a node are itself and what is under its children, where this is shown of other nodes,
 parts-at : (f k g : ℕ) → (g ≡ k) ⊎ (g ≡ k → ⊥) →
     ((g ≡ k → ⊥) → under_by f k g ≡ under_by f (2 * k + 1) g + under_by f (2 * k + 2) g) →
     under_by f k g ≡ (if g == k then 1 else 0) + under_by f (2 * k + 1) g + under_by f (2 * k + 2) g
@@ -73,7 +73,7 @@ parts-at f k g (inl e) h =
     let d = by-less f (2 * k + 2) g (omega arith) in omega arith
 parts-at f k g (inr e) h = let a = h e in let b = bit-no g k 1 e in omega arith
 
--- With steps enough.
+-- and so for all nodes, with fuel enough.
 parts : (f k g : ℕ) → g ≤ f → under_by f k g
     ≡ (if g == k then 1 else 0) + under_by f (2 * k + 1) g + under_by f (2 * k + 2) g
 parts zero k g h = parts-at zero k g (cases_eq g k) (λ ne.
@@ -93,7 +93,7 @@ pub under-parts : (k g : ℕ) → under k g
     ≡ (if g == k then 1 else 0) + under (2 * k + 1) g + under (2 * k + 2) g
 under-parts k g = parts g k g (omega arith)
 
--- All is under the root,
+-- Each node is under the root, with fuel enough,
 all-root : (f g : ℕ) → g ≤ f → under_by f 0 g ≡ 1
 all-root zero g h = by-same zero 0 g (omega arith)
 all-root (suc f) g h = elim (cases_eq g 0) [
@@ -101,11 +101,11 @@ all-root (suc f) g h = elim (cases_eq g 0) [
   | inr e ↦ by-up f 0 g e e ∙ all-root f ((g - 1) / 2) (omega arith)
 ]
 
--- All is under the root,
+-- and with its own fuel.
 pub under-root : (g : ℕ) → under 0 g ≡ 1
 under-root g = all-root g g (omega arith)
 
--- and once only.
+-- No node is under another more than once.
 once-by : (f c g : ℕ) → under_by f c g ≤ 1
 once-by zero c g = elim (cases_eq g c) [
   | inl e ↦ (let a = by-same zero c g e in omega arith)

@@ -1,0 +1,11 @@
+pub mod Concrete
+pub mod TurnSteps
+pub mod ComponentTurns
+pub mod ClockBounds
+pub mod DrawnNumbers
+pub mod LateStates
+pub mod LateSteps
+pub mod LateEnds
+pub mod EarlyStates
+pub mod EarlySteps
+pub mod EarlyEnds
