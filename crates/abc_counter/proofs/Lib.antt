@@ -1,0 +1,5 @@
+pub mod Times
+pub mod Sums
+pub mod Kept
+pub mod Tables
+pub mod Gathered

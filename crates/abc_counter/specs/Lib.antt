@@ -1,0 +1,5 @@
+pub mod Steps
+pub mod Rule
+pub mod Counters
+pub mod Laws
+pub mod Worked
