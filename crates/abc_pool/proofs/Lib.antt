@@ -1,0 +1,4 @@
+pub mod Walks
+pub mod Links
+pub mod Chains
+pub mod Pools
