@@ -1,0 +1,3 @@
+pub mod Handlings
+pub mod Storing
+pub mod Stocks
