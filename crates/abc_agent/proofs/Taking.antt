@@ -11,10 +11,38 @@ use Rattle.abc_wait.specs.Waits.{item_beside}
 use Rattle.abc_network.specs.Agents.{AgentState, Asking, Idle, Waiting, Granted, Shut, AgentDoes}
 use Rattle.abc_network.specs.Quiets.{AgentRests}
 use Rattle.abc_agent.specs.Ways.{way_of}
-use Rattle.abc_agent.specs.Members.{Member, SameMember, MadeAsk, MadeTakeOrTurn, IsAsk}
+use Rattle.abc_agent.specs.Members.{Member, SameMember, MadeAsk, MadeTake, MadeTurn, MadeTakeOrTurn, IsAsk, IsTake, IsTurn, IsTakeOrTurn}
 use Rattle.abc_agent.specs.Conditions.{CanAsk, CanTake, CanTurn}
 use Rattle.abc_agent.specs.Settlings.{GoesOnBy, count_left, turns_left, most_micro_steps}
 use Rattle.abc_agent.proofs.GoingOn.{same_member_again, goes_on_by_none, goes_on_by_one, goes_on_by_more, clock_rises, count_falls}
+
+-- Taking is taking or turning,
+take-is : {L : Type 0} (d : Deed L) → IsTake d → IsTakeOrTurn d
+take-is Asked h = absurd h
+take-is (Arrived link stamped drew) h = absurd h
+take-is (Took n place) h = tt
+take-is (Turned n place content) h = absurd h
+take-is (Passed n) h = absurd h
+take-is (Stray link stamped) h = absurd h
+
+-- and so is turning.
+turn-is : {L : Type 0} (d : Deed L) → IsTurn d → IsTakeOrTurn d
+turn-is Asked h = absurd h
+turn-is (Arrived link stamped drew) h = absurd h
+turn-is (Took n place) h = absurd h
+turn-is (Turned n place content) h = tt
+turn-is (Passed n) h = absurd h
+turn-is (Stray link stamped) h = absurd h
+
+-- An agent that took a number took or turned one,
+pub took : {B L : Type 0} (m : Meaning B L) (old new : Member B L) (before after : Lists L) →
+    MadeTake m old new before after → MadeTakeOrTurn m old new before after
+took m old new before after h = (h.0, take-is h.0.entry.deed h.1)
+
+-- and so did one that had its turn.
+pub turned : {B L : Type 0} (m : Meaning B L) (old new : Member B L) (before after : Lists L) →
+    MadeTurn m old new before after → MadeTakeOrTurn m old new before after
+turned m old new before after h = (h.0, turn-is h.0.entry.deed h.1)
 
 -- It took and turned some numbers, and those that are left are so many less.
 pub record StillTakes {B L : Type 0} (m : Meaning B L) (start now : Member B L) (before after : Lists L) :

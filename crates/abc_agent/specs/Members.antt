@@ -45,7 +45,25 @@ IsAsk (Turned n place content) = ⊥
 IsAsk (Passed n) = ⊥
 IsAsk (Stray link stamped) = ⊥
 
--- and of taking or turning a number.
+-- of taking the message of a number,
+abbrev pub IsTake : {L : Type 0} → Deed L → Type 0
+IsTake Asked = ⊥
+IsTake (Arrived link stamped drew) = ⊥
+IsTake (Took n place) = Unit {0}
+IsTake (Turned n place content) = ⊥
+IsTake (Passed n) = ⊥
+IsTake (Stray link stamped) = ⊥
+
+-- of having the turn at one,
+abbrev pub IsTurn : {L : Type 0} → Deed L → Type 0
+IsTurn Asked = ⊥
+IsTurn (Arrived link stamped drew) = ⊥
+IsTurn (Took n place) = ⊥
+IsTurn (Turned n place content) = Unit {0}
+IsTurn (Passed n) = ⊥
+IsTurn (Stray link stamped) = ⊥
+
+-- and of either.
 abbrev pub IsTakeOrTurn : {L : Type 0} → Deed L → Type 0
 IsTakeOrTurn Asked = ⊥
 IsTakeOrTurn (Arrived link stamped drew) = ⊥
@@ -60,7 +78,19 @@ abbrev pub MadeAsk : {B L : Type 0} → Meaning B L → Member B L → Member B 
 MadeAsk {B} {L} m old new before after =
     (step : Made m [] old new before after) × IsAsk step.entry.deed
 
--- It takes or turns a number, likewise.
+-- It takes the message of a number, likewise,
+abbrev pub MadeTake : {B L : Type 0} → Meaning B L → Member B L → Member B L →
+    Lists L → Lists L → Type 0
+MadeTake {B} {L} m old new before after =
+    (step : Made m [] old new before after) × IsTake step.entry.deed
+
+-- has its turn at one,
+abbrev pub MadeTurn : {B L : Type 0} → Meaning B L → Member B L → Member B L →
+    Lists L → Lists L → Type 0
+MadeTurn {B} {L} m old new before after =
+    (step : Made m [] old new before after) × IsTurn step.entry.deed
+
+-- or does one of the two.
 abbrev pub MadeTakeOrTurn : {B L : Type 0} → Meaning B L → Member B L → Member B L →
     Lists L → Lists L → Type 0
 MadeTakeOrTurn {B} {L} m old new before after =

@@ -6,7 +6,7 @@ ghost use Rattle.abc_network.specs.Networks.{starting};
 ghost use Rattle.abc_network.specs.Quiets.{AgentRests};
 ghost use Rattle.abc_agent.specs.Journals.{SameEntries};
 ghost use Rattle.abc_agent.specs.Ways.{HasLinksFrom};
-ghost use Rattle.abc_agent.specs.Members.{SameMember, MadeAsk, MadeTakeOrTurn, MadeArrival};
+ghost use Rattle.abc_agent.specs.Members.{SameMember, MadeAsk, MadeTake, MadeTurn, MadeTakeOrTurn, MadeArrival};
 ghost use Rattle.abc_agent.specs.Conditions.{CanAsk, CanTake, CanTurn};
 ghost use Rattle.abc_agent.specs.Settlings.{GoesOnBy, count_left, most_micro_steps};
 
@@ -197,13 +197,13 @@ impl<'p, B: Body> Agent<'p, B> {
         Ok(())
     }
 
-    /// Takes the message of the next number.
-    fn take(&mut self, alloc: Global) -> Result<(), NoMemory>
+    /// Takes the message of the next number. After NoMemory all is as before.
+    pub fn take(&mut self, alloc: Global) -> Result<(), NoMemory>
         requires can { CanTake self.old.actor.state }
         requires clock { self.old.actor.clock < MOST_CLOCK }
         ensures member { SameMember self.old self.new }
         ensures made { OnOk result ((lists : Lists B.Label) →
-            MadeTakeOrTurn B.meaning self.old self.new lists lists) }
+            MadeTake B.meaning self.old self.new lists lists) }
         ensures err { OnErr result (self.new ≡ self.old) }
     {
         self.journal.make_room()?;
@@ -212,14 +212,18 @@ impl<'p, B: Body> Agent<'p, B> {
         Ok(())
     }
 
-    /// Has its turn at the next number.
-    fn turn<O: Outlet<B::Label>>(&mut self, alloc: Global, outlet: &mut O) -> Result<(), NoMemory>
+    /// Has its turn at the next number. After NoMemory all is as before.
+    pub fn turn<O: Outlet<B::Label>>(
+        &mut self,
+        alloc: Global,
+        outlet: &mut O,
+    ) -> Result<(), NoMemory>
         requires can { CanTurn self.old.actor.state }
         requires links { HasLinksFrom self.old.plan self.old.number (O.has_link outlet.old) }
         requires clock { self.old.actor.clock < MOST_CLOCK }
         ensures member { SameMember self.old self.new }
         ensures made { OnOk result
-            (MadeTakeOrTurn B.meaning self.old self.new (O.lists outlet.old) (O.lists outlet.new)) }
+            (MadeTurn B.meaning self.old self.new (O.lists outlet.old) (O.lists outlet.new)) }
         ensures err { OnErr result
             ((self.new ≡ self.old) × SameLists (O.lists outlet.old) (O.lists outlet.new)) }
         ensures links { SameLinks (O.has_link outlet.old) (O.has_link outlet.new) }
@@ -249,6 +253,7 @@ impl<'p, B: Body> Agent<'p, B> {
 
     /// Takes the message of the next number, or has its turn there, and answers true; false where it
     /// can do neither, and nothing changes. Nor does anything after NoMemory.
+    #[tactic(auto, using(crate::proofs::Taking::took, crate::proofs::Taking::turned))]
     pub fn take_or_turn<O: Outlet<B::Label>>(
         &mut self,
         alloc: Global,

@@ -1,0 +1,11 @@
+pub mod Putting
+pub mod Few
+pub mod Events
+pub mod Among
+pub mod Crewed
+pub mod Delivered
+pub mod Stepping
+pub mod Staying
+pub mod Lacking
+pub mod Networked
+pub mod Ending

@@ -1,0 +1,5 @@
+pub mod Tables
+pub mod Kinds
+pub mod Teams
+pub mod Crews
+pub mod Runnings

@@ -1,0 +1,103 @@
+//! The links of a network on one thread.
+ghost use Rattle.std.specs.Prelude.{◌≡◌, ◌<◌, ◌≤◌, ◌+◌, [], ◌∷◌, List, ℕ, length, replicate, slice_get, IfOk, IfSome, IfNone, IsTrue, ◌↔◌, OnOk, OnErr};
+ghost use Rattle.std.specs.Option.{option_copied};
+ghost use Rattle.abc_packet.specs.Outlets.{Sends, SameLists, SameLinks};
+ghost use Rattle.abc_shape.specs.Plans.{link_count};
+ghost use Rattle.abc_pool.specs.Queues.{items_in, Pops};
+
+use abc_packet::{NoMemory, Outlet, Stamped};
+use abc_pool::Pool;
+use abc_shape::Plan;
+use std::alloc::Global;
+use std::marker::Model;
+
+/// A list of packets for each link of a network, all in one table of cells.
+///
+/// Contracts see the lists, by the number of their link, and how many packets more there is room
+/// for.
+#[derive(Drop)]
+pub struct Links<L> {
+    pool: Pool<Stamped<L>>,
+}
+
+impl<L> Model for Links<L> {
+    ghost use Rattle.abc_pool.specs.Queues.{Queues};
+    ghost use Rattle.abc_packet.specs.declared.stamped.Stamped.{Stamped};
+
+    ghost Value = { Queues (Stamped L) };
+
+    ghost view = { λ l. l.pool };
+}
+
+impl<L> Links<L> {
+    /// The links of a plan, with nothing on them.
+    #[tactic(auto, using(crate::proofs::Few::few_links))]
+    pub fn new(alloc: Global, plan: &Plan) -> Result<Links<L>, NoMemory>
+        ensures queues { IfOk result (λ l. l.queues ≡ replicate (link_count plan.now) []) }
+    {
+        let _agents = plan.agents();
+        let count = plan.links().len();
+        let pool = Pool::with_queues(alloc, count as u32)?;
+        Ok(Links { pool })
+    }
+
+    /// The first packet of a link, which stays; None where nothing is on it.
+    pub fn front(&self, link: u32) -> Option<&Stamped<L>>
+        requires there { link < length self.now.queues }
+        ensures first { option_copied result ≡ slice_get (items_in self.now link) 0 }
+    {
+        self.pool.front(link)
+    }
+
+    /// Takes the first packet of a link; None where nothing is on it.
+    pub fn take_first(&mut self, link: u32) -> Option<Stamped<L>>
+        requires there { link < length self.old.queues }
+        ensures first { IfSome result (Pops self.old self.new link) }
+        ensures number { length self.new.queues ≡ length self.old.queues }
+        ensures empty { IfNone result (items_in self.old link ≡ []) }
+        ensures same { IfNone result (self.new ≡ self.old) }
+    {
+        self.pool.pop(link)
+    }
+
+    /// Whether nothing is on any link.
+    #[tactic(auto, using(crate::proofs::Few::all_empty, crate::proofs::Few::none_counted))]
+    pub fn are_empty(&self) -> bool
+        ensures { IsTrue result ↔ ((link : ℕ) → items_in self.now link ≡ []) }
+    {
+        self.pool.cells() == self.pool.spare()
+    }
+}
+
+impl<L: Drop> Outlet<L> for Links<L> {
+    type Rest = ();
+
+    ghost has_link = { λ o link. link < length o.queues };
+
+    ghost lists = { λ o link. items_in o link };
+
+    ghost room_of = { λ o. o.spare };
+
+    ghost rest = { λ _. tt };
+
+    fn room(&self) -> usize {
+        self.pool.spare()
+    }
+
+    fn make_room(&mut self, count: usize) -> Result<(), NoMemory> {
+        self.pool.reserve(count)
+    }
+
+    #[tactic(auto, using(crate::proofs::Putting::put_on_its_link))]
+    fn send(&mut self, link: u32, stamped: Stamped<L>)
+        requires has { link < length self.old.queues }
+        requires room { 0 < self.old.spare }
+        ensures links { SameLinks (λ k. k < length self.old.queues)
+            (λ k. k < length self.new.queues) }
+        ensures lists { Sends (λ k. items_in self.old k) ((link, stamped) ∷ [])
+            (λ k. items_in self.new k) }
+        ensures room { self.old.spare ≤ self.new.spare + 1 }
+    {
+        self.pool.push(link, stamped);
+    }
+}

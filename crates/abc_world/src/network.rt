@@ -1,0 +1,211 @@
+ghost use Rattle.std.specs.Prelude.{◌≡◌, ◌<◌, ◌≤◌, ◌-◌, ◌+◌, ℕ, length, map, Some, slice_get, MatchBool, IfOk, OnErr, IsTrue};
+ghost use Rattle.abc_shape.specs.Plans.{IsLink, actor_of};
+ghost use Rattle.abc_schedule.specs.Laws.{ClocksWithin};
+ghost use Rattle.abc_world.specs.Runnings.{SameNetwork, Answers};
+ghost use Rattle.abc_world.specs.declared.event.EventKind.TheVariants.{Ask, Arrive, Take, Turn, Pass};
+
+use crate::event::{Event, EventKind, Moved};
+use crate::links::Links;
+use crate::node::Node;
+use crate::{delivery, moving, passing};
+use abc_agent::Agent;
+use abc_body::Body;
+use abc_number::PlainCounter;
+use abc_packet::{MOST_CLOCK, NoMemory};
+use abc_shape::Plan;
+use std::alloc::Global;
+use std::marker::Model;
+
+/// A network of agents and sequencing nodes of one kind, on one thread.
+///
+/// Contracts see its plan, the greatest number that is drawn, where the turns begin, and the state
+/// of
+/// the network that it is.
+#[derive(Drop)]
+pub struct Network<'p, B: Body, M: Node<B::Label>> {
+    plan: &'p Plan,
+    pick: u64,
+    agents: Vec<Agent<'p, B>>,
+    nodes: Vec<M>,
+    links: Links<B::Label>,
+    numbers: PlainCounter,
+    alloc: Global,
+}
+
+impl<'p, B: Body, M: Node<B::Label>> Model for Network<'p, B, M> {
+    ghost use Rattle.std.specs.Prelude.{◌≡◌, map, length};
+    ghost use Rattle.abc_shape.specs.Plans.{link_count};
+    ghost use Rattle.abc_world.specs.Teams.{AreAgents};
+    ghost use Rattle.abc_world.specs.Crews.{AreNodes};
+    ghost use Rattle.abc_world.specs.Runnings.{Running, net_of};
+
+    ghost Value = { Running B B.Label M.State };
+
+    ghost view = { λ w. record {
+      plan = w.plan.now;
+      limit = w.numbers.limit;
+      pick = w.pick;
+      net = net_of w.agents.items (map M.node w.nodes.items) w.links.queues w.numbers;
+    } };
+
+    ghost invariant = { λ w.
+        AreAgents w.plan.now w.pick w.agents.items × AreNodes w.plan.now (map M.node w.nodes.items)
+        × (length w.links.queues ≡ link_count w.plan.now) };
+}
+
+/// What is answered, by whether it was done.
+fn answer(made: bool) -> Moved
+    ensures { MatchBool made (result ≡ Moved.Done) (result ≡ Moved.NotEnabled) }
+{
+    if made { Moved::Done } else { Moved::NotEnabled }
+}
+
+/// Whether a link ends at an actor.
+fn ends_at(plan: &Plan, link: u32, actor: u32) -> bool
+    ensures { MatchBool result ((from : ℕ) × IsLink plan.now link from actor)
+        ((from : ℕ) → IsLink plan.now link from actor → ⊥) }
+{
+    let links = plan.links();
+    if (link as usize) < links.len() {
+        links[link as usize].to == actor
+    } else {
+        false
+    }
+}
+
+impl<'p, B: Body, M: Node<B::Label>> Network<'p, B, M> {
+    /// An agent asks for a number, if it can.
+    fn ask(&mut self, actor: u32) -> Result<Moved, NoMemory>
+        requires low { ClocksWithin (MOST_CLOCK - 1) self.old.net }
+        ensures same { SameNetwork self.old self.new }
+        ensures answers { IfOk result
+            (λ r. Answers B.meaning M.machine M.blank actor Ask self.old r self.new) }
+        ensures err { OnErr result (self.new ≡ self.old) }
+    {
+        if actor >= self.plan.agents() {
+            return Ok(Moved::NotEnabled);
+        }
+        let made = moving::ask(&mut self.agents, actor, &mut self.links)?;
+        Ok(answer(made))
+    }
+
+    /// An agent takes the message of the next number, if it can.
+    fn take(&mut self, actor: u32) -> Result<Moved, NoMemory>
+        requires low { ClocksWithin (MOST_CLOCK - 1) self.old.net }
+        ensures same { SameNetwork self.old self.new }
+        ensures answers { IfOk result
+            (λ r. Answers B.meaning M.machine M.blank actor Take self.old r self.new) }
+        ensures err { OnErr result (self.new ≡ self.old) }
+    {
+        if actor >= self.plan.agents() {
+            return Ok(Moved::NotEnabled);
+        }
+        let made = moving::take_if_can(self.alloc, &mut self.agents, actor)?;
+        Ok(answer(made))
+    }
+
+    /// An agent has its turn at the next number, if it can.
+    fn turn(&mut self, actor: u32) -> Result<Moved, NoMemory>
+        requires low { ClocksWithin (MOST_CLOCK - 1) self.old.net }
+        ensures same { SameNetwork self.old self.new }
+        ensures answers { IfOk result
+            (λ r. Answers B.meaning M.machine M.blank actor Turn self.old r self.new) }
+        ensures err { OnErr result (self.new ≡ self.old) }
+    {
+        if actor >= self.plan.agents() {
+            return Ok(Moved::NotEnabled);
+        }
+        let made = moving::turn_if_can(self.alloc, &mut self.agents, actor, &mut self.links)?;
+        Ok(answer(made))
+    }
+
+    /// The first packet of a link arrives at an agent at which the link ends.
+    fn arrive_at_agent(&mut self, actor: u32, link: u32) -> Result<Moved, NoMemory>
+        requires agent { actor < self.old.plan.agents }
+        requires ends { (from : ℕ) × IsLink self.old.plan link from actor }
+        requires low { ClocksWithin (MOST_CLOCK - 1) self.old.net }
+        ensures same { SameNetwork self.old self.new }
+        ensures answers { IfOk result
+            (λ r. Answers B.meaning M.machine M.blank actor (Arrive link) self.old r self.new) }
+        ensures err { OnErr result (self.new ≡ self.old) }
+    {
+        let _agents = self.plan.agents();
+        let made = delivery::to_agent(&mut self.agents, actor, link, &mut self.links)?;
+        Ok(answer(made))
+    }
+
+    /// The first packet of a link arrives at a node at which the link ends.
+    fn arrive_at_node(&mut self, actor: u32, link: u32) -> Result<Moved, NoMemory>
+        requires node { self.old.plan.agents ≤ actor }
+        requires ends { (from : ℕ) × IsLink self.old.plan link from actor }
+        requires low { ClocksWithin (MOST_CLOCK - 1) self.old.net }
+        ensures same { SameNetwork self.old self.new }
+        ensures answers { IfOk result
+            (λ r. Answers B.meaning M.machine M.blank actor (Arrive link) self.old r self.new) }
+        ensures err { OnErr result (self.new ≡ self.old) }
+    {
+        let node = actor - self.plan.agents();
+        let numbers = &mut self.numbers;
+        let made = delivery::to_node(&mut self.nodes, node, link, numbers, &mut self.links)?;
+        Ok(answer(made))
+    }
+
+    /// A node passes the message of the next number on, if it can.
+    fn pass(&mut self, actor: u32) -> Result<Moved, NoMemory>
+        requires low { ClocksWithin (MOST_CLOCK - 1) self.old.net }
+        ensures same { SameNetwork self.old self.new }
+        ensures answers { IfOk result
+            (λ r. Answers B.meaning M.machine M.blank actor Pass self.old r self.new) }
+        ensures err { OnErr result (self.new ≡ self.old) }
+    {
+        let agents = self.plan.agents();
+        if actor < agents {
+            return Ok(Moved::NotEnabled);
+        }
+        let node = actor - agents;
+        if node >= self.plan.nodes() {
+            return Ok(Moved::NotEnabled);
+        }
+        let made = passing::pass(&mut self.nodes, node, &mut self.links)?;
+        Ok(answer(made))
+    }
+
+    /// The first packet of a link arrives at an actor at which the link ends, if there is one.
+    fn arrive(&mut self, actor: u32, link: u32) -> Result<Moved, NoMemory>
+        requires low { ClocksWithin (MOST_CLOCK - 1) self.old.net }
+        ensures same { SameNetwork self.old self.new }
+        ensures answers { IfOk result
+            (λ r. Answers B.meaning M.machine M.blank actor (Arrive link) self.old r self.new) }
+        ensures err { OnErr result (self.new ≡ self.old) }
+    {
+        if !ends_at(self.plan, link, actor) {
+            return Ok(Moved::NotEnabled);
+        }
+        if actor < self.plan.agents() {
+            self.arrive_at_agent(actor, link)
+        } else {
+            self.arrive_at_node(actor, link)
+        }
+    }
+
+    /// Makes an event, where the network has it; `NotEnabled`, and nothing changes, exactly where
+    /// it has
+    /// none. A draw of a node is that of the network's one counter. After NoMemory all is as
+    /// before.
+    pub fn step(&mut self, event: &Event) -> Result<Moved, NoMemory>
+        requires low { ClocksWithin (MOST_CLOCK - 1) self.old.net }
+        ensures same { SameNetwork self.old self.new }
+        ensures answers { IfOk result (λ r.
+            Answers B.meaning M.machine M.blank event.now.actor event.now.kind self.old r
+            self.new) }
+        ensures err { OnErr result (self.new ≡ self.old) }
+    {
+        match event.kind {
+            EventKind::Ask => self.ask(event.actor),
+            EventKind::Arrive { link } => self.arrive(event.actor, link),
+            EventKind::Take => self.take(event.actor),
+            EventKind::Turn => self.turn(event.actor),
+            EventKind::Pass => self.pass(event.actor),
+        }
+    }
+}
