@@ -1,0 +1,3 @@
+pub mod Homed
+pub mod Linked
+pub mod Asked
