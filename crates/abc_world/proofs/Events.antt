@@ -56,7 +56,7 @@ gone here d c sends links after t h low =
     (g.left, g.first, same)
 
 -- An agent draws nothing.
-draws-none : {B L : Type 0} (m : Meaning B L) (pick : ℕ) (way : ℕ → ℕ) (i : ℕ) (s : AgentState B L) (d : Deed L)
+pub draws-none : {B L : Type 0} (m : Meaning B L) (pick : ℕ) (way : ℕ → ℕ) (i : ℕ) (s : AgentState B L) (d : Deed L)
     (sends : List (ℕ × Packet L)) (t : AgentState B L) → AgentDoes m pick way i s d sends t → drawn_in d ≡ None
 draws-none m pick way i s Asked sends t row = refl
 draws-none m pick way i s (Arrived link stamped drew) sends t row = row.0

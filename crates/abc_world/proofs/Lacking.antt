@@ -12,7 +12,7 @@ use Rattle.abc_number.specs.Counter.{Counter}
 use Rattle.abc_body.specs.Meanings.{Meaning}
 use Rattle.abc_wait.specs.Waits.{item_beside}
 use Rattle.abc_network.specs.Agents.{AgentState, AgentDoes, Granted}
-use Rattle.abc_network.specs.Networks.{Actor, AgentDid, NodeDid, FirstTaken, EndsAtAgent, EndsAtNode}
+use Rattle.abc_network.specs.Networks.{Net, Actor, Event, AgentDid, NodeDid, NetStep, FirstTaken, EndsAtAgent, EndsAtNode}
 use Rattle.abc_network.specs.Nodes.{NodeMachine}
 use Rattle.abc_network_laws.proofs.Lists.{swap-old}
 use Rattle.abc_history.specs.Nodes.{SeenNode}
@@ -21,9 +21,10 @@ use Rattle.abc_agent.specs.Conditions.{CanAsk, CanTake, CanTurn}
 use Rattle.abc_agent.specs.Ways.{way_of}
 use Rattle.abc_world.specs.declared.event.EventKind.{EventKind}
 use Rattle.abc_world.specs.declared.event.EventKind.TheVariants.{Ask, Arrive, Take, Turn, Pass}
-use Rattle.abc_world.specs.Kinds.{IsOfKind, IsPass, ArrivesOn}
+use Rattle.abc_world.specs.Kinds.{IsPass, ArrivesOn}
 use Rattle.abc_world.specs.Teams.{actor_in}
-use Rattle.abc_world.specs.Runnings.{rules_of, net_of, node_in, HasNone, IsNodeDeed, AreNodeTables}
+use Rattle.abc_world.specs.Enabled.{Enabled}
+use Rattle.abc_world.specs.Runnings.{rules_of, net_of, node_in, IsEvent, Lacks, IsNodeDeed, AreNodeTables}
 
 -- What stands in a list whose items were changed one by one comes from what stood there.
 pub from-map : {X Y : Type 0} (f : X → Y) (xs : List X) (i : ℕ) (y : Y) → slice_get (map f xs) i ≡ Some y →
@@ -123,7 +124,7 @@ not-both [] x q h k = (cc)
 not-both (y ∷ ys) x q h k = (cc)
 
 -- Where something stands first on a link, the link is not empty.
-some-there : {X : Type 0} (queues : List (List X)) (link : ℕ) (x : X) (q : List X) → slice_get queues link ≡ Some (x ∷ q) →
+pub some-there : {X : Type 0} (queues : List (List X)) (link : ℕ) (x : X) (q : List X) → slice_get queues link ≡ Some (x ∷ q) →
     get_or queues link [] ≡ [] → ⊥
 some-there queues link x q stands none =
     let is : get_or queues link [] ≡ x ∷ q =
@@ -131,62 +132,89 @@ some-there queues link x q stands none =
     not-both (get_or queues link []) x q is none
 
 module _ {B L S : Type 0} (m : Meaning B L) (machine : Layout → NodeMachine L S) (blank : S) (tables : AreNodeTables machine)
-    (p : Layout) (limit pick : ℕ) (agents : List (Member B L)) (nodes : List (SeenNode S L))
-    (links : List (List (Stamped L))) (numbers : Counter) where
-  -- Of a kind that is no node's: where the agent of this number can't, there is no event.
-  agent-none : (i : ℕ) (kind : EventKind) (Can : AgentState B L → Type 0) →
-      ((d : Deed L) → IsNodeDeed d → IsOfKind kind d → ⊥) →
-      ((s : AgentState B L) (d : Deed L) (o : List (ℕ × Packet L)) (t : AgentState B L) →
-      AgentDoes m pick (way_of p i) i s d o t → IsOfKind kind d → Can s) →
-      ((a : Member B L) → slice_get agents i ≡ Some a → Can a.actor.state → ⊥) →
-      HasNone m (rules_of machine blank p limit pick) i kind (net_of agents nodes links numbers)
-  agent-none i kind Can no-node can cannot (AgentDid j e) w' is step =
-      let found = from-map actor_in agents j step.old (swap-old j step.old step.new (map actor_in agents) w'.agents step.at) in
-      let row = subst (λ v. AgentDoes m pick (way_of p v) v step.old.state e.deed step.sends step.new.state) is.0 step.row in
-      let does : Can step.old.state = can step.old.state e.deed step.sends step.new.state row is.1 in
-      cannot found.0 (subst (λ v. slice_get agents v ≡ Some found.0) is.0 found.1)
-      (subst (λ (v : Actor (AgentState B L) L). Can v.state) (sym found.2) does)
-  agent-none i kind Can no-node can cannot (NodeDid k e) w' is step =
-      no-node e.deed (tables.deeds p k step.old.state e.deed step.sends step.new.state step.row) is.1
+    (p : Layout) (limit pick : ℕ) where
+  -- Of each event of a network its actor was able,
+  event-enabled : (w : Net B L S) (i : ℕ) (kind : EventKind) (e : Event L) (w' : Net B L S) → IsEvent p i kind e →
+      NetStep m (rules_of machine blank p limit pick) w e w' → Enabled m (rules_of machine blank p limit pick) kind i w
+  event-enabled w i Ask (AgentDid j e) w' is step = (
+    step.old,
+    subst (λ v. slice_get w.agents v ≡ Some step.old) is.0 (swap-old j step.old step.new w.agents w'.agents step.at),
+    asks-can m pick (way_of p j) j step.old.state e.deed step.sends step.new.state step.row is.1,
+  )
+  event-enabled w i Ask (NodeDid k e) w' is step =
+      absurd (no-ask e.deed (tables.deeds p k step.old.state e.deed step.sends step.new.state step.row) is.1)
+  event-enabled w i Take (AgentDid j e) w' is step = (
+    step.old,
+    subst (λ v. slice_get w.agents v ≡ Some step.old) is.0 (swap-old j step.old step.new w.agents w'.agents step.at),
+    takes-can m pick (way_of p j) j step.old.state e.deed step.sends step.new.state step.row is.1,
+  )
+  event-enabled w i Take (NodeDid k e) w' is step =
+      absurd (no-take e.deed (tables.deeds p k step.old.state e.deed step.sends step.new.state step.row) is.1)
+  event-enabled w i Turn (AgentDid j e) w' is step = (
+    step.old,
+    subst (λ v. slice_get w.agents v ≡ Some step.old) is.0 (swap-old j step.old step.new w.agents w'.agents step.at),
+    turns-can m pick (way_of p j) j step.old.state e.deed step.sends step.new.state step.row is.1,
+  )
+  event-enabled w i Turn (NodeDid k e) w' is step =
+      absurd (no-turn e.deed (tables.deeds p k step.old.state e.deed step.sends step.new.state step.row) is.1)
+  event-enabled w i (Arrive link) (AgentDid j e) w' is step =
+      let first = arrival-first link (EndsAtAgent p j) e.deed w.links step.left step.first is.1 in
+      ((first.0.1.0, subst (λ v. IsLink p link first.0.1.0 v) is.0 first.0.1.1), first.1)
+  event-enabled w i (Arrive link) (NodeDid k e) w' is step =
+      let first = arrival-first link (EndsAtNode p k) e.deed w.links step.left step.first is.1 in
+      ((first.0.0, subst (λ v. IsLink p link first.0.0 v) is.0 first.0.1), first.1)
+  event-enabled w i Pass (AgentDid j e) w' is step =
+      absurd (no-pass m pick (way_of p j) j step.old.state e.deed step.sends step.new.state step.row is.1)
+  event-enabled w i Pass (NodeDid k e) w' is step = (
+    k,
+    step.old,
+    is.0,
+    swap-old k step.old step.new w.nodes w'.nodes step.at,
+    tables.passes p k step.old.state e.deed step.sends step.new.state step.row is.1,
+  )
 
-  pub none-asks : (i : ℕ) → ((a : Member B L) → slice_get agents i ≡ Some a → CanAsk m a.actor.state → ⊥) →
-      HasNone m (rules_of machine blank p limit pick) i Ask (net_of agents nodes links numbers)
-  none-asks i cannot = agent-none i Ask (CanAsk m) no-ask (asks-can m pick (way_of p i) i) cannot
+  -- so where an actor isn't, there is none.
+  lacking : (w : Net B L S) (i : ℕ) (kind : EventKind) →
+      (Enabled m (rules_of machine blank p limit pick) kind i w → ⊥) → Lacks m (rules_of machine blank p limit pick) i kind w
+  lacking w i kind cannot = (cannot, λ e w' is step. cannot (event-enabled w i kind e w' is step))
 
-  pub none-takes : (i : ℕ) → ((a : Member B L) → slice_get agents i ≡ Some a → CanTake a.actor.state → ⊥) →
-      HasNone m (rules_of machine blank p limit pick) i Take (net_of agents nodes links numbers)
-  none-takes i cannot = agent-none i Take CanTake no-take (takes-can m pick (way_of p i) i) cannot
+  module _ (agents : List (Member B L)) (nodes : List (SeenNode S L)) (links : List (List (Stamped L))) (numbers : Counter) where
+    -- Where the agent of this number can't,
+    agent-cannot : (i : ℕ) (Can : AgentState B L → Type 0) →
+        ((a : Member B L) → slice_get agents i ≡ Some a → Can a.actor.state → ⊥) →
+        (a : Actor (AgentState B L) L) → slice_get (map actor_in agents) i ≡ Some a → Can a.state → ⊥
+    agent-cannot i Can cannot a at can =
+        let found = from-map actor_in agents i a at in
+        cannot found.0 found.1 (subst (λ (v : Actor (AgentState B L) L). Can v.state) (sym found.2) can)
 
-  pub none-turns : (i : ℕ) → ((a : Member B L) → slice_get agents i ≡ Some a → CanTurn a.actor.state → ⊥) →
-      HasNone m (rules_of machine blank p limit pick) i Turn (net_of agents nodes links numbers)
-  none-turns i cannot = agent-none i Turn CanTurn no-turn (turns-can m pick (way_of p i) i) cannot
+    pub none-asks : (i : ℕ) → ((a : Member B L) → slice_get agents i ≡ Some a → CanAsk m a.actor.state → ⊥) →
+        Lacks m (rules_of machine blank p limit pick) i Ask (net_of agents nodes links numbers)
+    none-asks i cannot = lacking (net_of agents nodes links numbers) i Ask (λ h. agent-cannot i (CanAsk m) cannot h.0 h.1 h.2)
 
-  pub none-passes : (i : ℕ) → ((k : ℕ) (n : SeenNode S L) → actor_of p k ≡ i → slice_get nodes k ≡ Some n →
-      (machine p).can_pass n.actor.state → ⊥) →
-      HasNone m (rules_of machine blank p limit pick) i Pass (net_of agents nodes links numbers)
-  none-passes i cannot (AgentDid j e) w' is step =
-      no-pass m pick (way_of p j) j step.old.state e.deed step.sends step.new.state step.row is.1
-  none-passes i cannot (NodeDid k e) w' is step =
-      let found = from-map node_in nodes k step.old (swap-old k step.old step.new (map node_in nodes) w'.nodes step.at) in
-      cannot k found.0 is.0 found.1 (subst (λ (v : Actor S L). (machine p).can_pass v.state) (sym found.2)
-      (tables.passes p k step.old.state e.deed step.sends step.new.state step.row is.1))
+    pub none-takes : (i : ℕ) → ((a : Member B L) → slice_get agents i ≡ Some a → CanTake a.actor.state → ⊥) →
+        Lacks m (rules_of machine blank p limit pick) i Take (net_of agents nodes links numbers)
+    none-takes i cannot = lacking (net_of agents nodes links numbers) i Take (λ h. agent-cannot i CanTake cannot h.0 h.1 h.2)
 
-  -- Where a link doesn't end at an actor,
-  pub none-arrives_elsewhere : (i link : ℕ) → ((from : ℕ) → IsLink p link from i → ⊥) →
-      HasNone m (rules_of machine blank p limit pick) i (Arrive link) (net_of agents nodes links numbers)
-  none-arrives_elsewhere i link elsewhere (AgentDid j e) w' is step =
-      let first = arrival-first link (EndsAtAgent p j) e.deed links step.left step.first is.1 in
-      elsewhere first.0.1.0 (subst (λ v. IsLink p link first.0.1.0 v) is.0 first.0.1.1)
-  none-arrives_elsewhere i link elsewhere (NodeDid k e) w' is step =
-      let first = arrival-first link (EndsAtNode p k) e.deed links step.left step.first is.1 in
-      elsewhere first.0.0 (subst (λ v. IsLink p link first.0.0 v) is.0 first.0.1)
+    pub none-turns : (i : ℕ) → ((a : Member B L) → slice_get agents i ≡ Some a → CanTurn a.actor.state → ⊥) →
+        Lacks m (rules_of machine blank p limit pick) i Turn (net_of agents nodes links numbers)
+    none-turns i cannot = lacking (net_of agents nodes links numbers) i Turn (λ h. agent-cannot i CanTurn cannot h.0 h.1 h.2)
 
-  -- or is empty.
-  pub none-arrives_nothing : (i link : ℕ) → get_or links link [] ≡ [] →
-      HasNone m (rules_of machine blank p limit pick) i (Arrive link) (net_of agents nodes links numbers)
-  none-arrives_nothing i link none (AgentDid j e) w' is step =
-      let first = arrival-first link (EndsAtAgent p j) e.deed links step.left step.first is.1 in
-      some-there links link first.1.0 first.1.1 first.1.2 none
-  none-arrives_nothing i link none (NodeDid k e) w' is step =
-      let first = arrival-first link (EndsAtNode p k) e.deed links step.left step.first is.1 in
-      some-there links link first.1.0 first.1.1 first.1.2 none
+    -- where the node can't,
+    pub none-passes : (i : ℕ) → ((k : ℕ) (n : SeenNode S L) → actor_of p k ≡ i → slice_get nodes k ≡ Some n →
+        (machine p).can_pass n.actor.state → ⊥) →
+        Lacks m (rules_of machine blank p limit pick) i Pass (net_of agents nodes links numbers)
+    none-passes i cannot = lacking (net_of agents nodes links numbers) i Pass (λ h.
+        let found = from-map node_in nodes h.0 h.1 h.3 in
+        cannot h.0 found.0 h.2 found.1 (subst (λ (v : Actor S L). (machine p).can_pass v.state) (sym found.2) h.4))
+
+    -- where a link doesn't end at the actor,
+    pub none-arrives_elsewhere : (i link : ℕ) → ((from : ℕ) → IsLink p link from i → ⊥) →
+        Lacks m (rules_of machine blank p limit pick) i (Arrive link) (net_of agents nodes links numbers)
+    none-arrives_elsewhere i link elsewhere =
+        lacking (net_of agents nodes links numbers) i (Arrive link) (λ h. elsewhere h.0.0 h.0.1)
+
+    -- or is empty.
+    pub none-arrives_nothing : (i link : ℕ) → get_or links link [] ≡ [] →
+        Lacks m (rules_of machine blank p limit pick) i (Arrive link) (net_of agents nodes links numbers)
+    none-arrives_nothing i link none =
+        lacking (net_of agents nodes links numbers) i (Arrive link) (λ h. some-there links link h.1.0 h.1.1 h.1.2 none)

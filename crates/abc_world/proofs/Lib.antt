@@ -8,4 +8,16 @@ pub mod Stepping
 pub mod Staying
 pub mod Lacking
 pub mod Networked
+pub mod InLinked
+pub mod Listings
+pub mod Startings
+pub mod OneCounted
+pub mod PassedOn
+pub mod Seated
+pub mod Resting
+pub mod Stilled
+pub mod Ran
+pub mod Shaped
+pub mod Left
+pub mod Legally
 pub mod Ending

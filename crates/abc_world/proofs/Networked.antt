@@ -27,17 +27,17 @@ use Rattle.abc_world.specs.declared.event.Moved.{Moved}
 use Rattle.abc_world.specs.declared.event.Moved.TheVariants.{Done, NotEnabled}
 use Rattle.abc_world.specs.Teams.{AreAgents, actor_in}
 use Rattle.abc_world.specs.Crews.{AreNodes, NodeMade, DrewOf}
-use Rattle.abc_world.specs.Runnings.{Running, rules_of, net_of, node_in, Steps, HasNone, Answers}
+use Rattle.abc_world.specs.Runnings.{Running, rules_of, net_of, node_in, Steps, Lacks, Answers}
 use Rattle.abc_world.proofs.Lacking.{from-map}
 
 -- What all have, the one at a place has.
-each-there : {X : Type 0} (P : X → Type 0) (xs : List X) (i : ℕ) (x : X) → Each P xs → slice_get xs i ≡ Some x → P x
+pub each-there : {X : Type 0} (P : X → Type 0) (xs : List X) (i : ℕ) (x : X) → Each P xs → slice_get xs i ≡ Some x → P x
 each-there P [] i x h at = absurd (cc)
 each-there P (y ∷ ys) zero x h at = let e : y ≡ x = cc in subst P e h.0
 each-there P (y ∷ ys) (suc i) x h at = each-there P ys i x h.1 at
 
 -- What stands at a place, changed, stands there in the list of all changed.
-map-there : {X Y : Type 0} (f : X → Y) (xs : List X) (i : ℕ) (x : X) → slice_get xs i ≡ Some x → slice_get (map f xs) i ≡ Some (f x)
+pub map-there : {X Y : Type 0} (f : X → Y) (xs : List X) (i : ℕ) (x : X) → slice_get xs i ≡ Some x → slice_get (map f xs) i ≡ Some (f x)
 map-there f [] i x h = absurd (cc)
 map-there f (y ∷ ys) zero x h = let e : y ≡ x = cc in ap (λ v. Some (f v)) e
 map-there f (y ∷ ys) (suc i) x h = map-there f ys i x h
@@ -83,7 +83,7 @@ pub answers-by : {B L N : Type 0} (m : Meaning B L) (machine : Layout → NodeMa
     (old new : Running B L N) (P Cannot : Type 0) (made : Bool) (r : Moved) → MatchBool made (r ≡ Done) (r ≡ NotEnabled) →
     MatchBool made P Cannot → OnFalse made (new ≡ old) →
     (P → Steps m (rules_of machine blank old.plan old.limit old.pick) i kind old.net new.net) →
-    (Cannot → HasNone m (rules_of machine blank old.plan old.limit old.pick) i kind old.net) →
+    (Cannot → Lacks m (rules_of machine blank old.plan old.limit old.pick) i kind old.net) →
     Answers m machine blank i kind old r new
 answers-by m machine blank i kind old new P Cannot true r is h stays f none =
     subst (λ v. Answers m machine blank i kind old v new) (sym is) (f h)

@@ -1,5 +1,12 @@
 pub mod Tables
+pub mod OneCounters
 pub mod Kinds
 pub mod Teams
 pub mod Crews
+pub mod Enabled
+pub mod InLinks
 pub mod Runnings
+pub mod NodeTables
+pub mod Listing
+pub mod Starting
+pub mod ShapeLaws

@@ -1,5 +1,5 @@
 -- A network in code, and the events that it makes.
-use Rattle.std.specs.Prelude.{◌≡◌, ℕ, zero, suc, List, [], ◌∷◌, map}
+use Rattle.std.specs.Prelude.{◌≡◌, ℕ, zero, suc, List, [], ◌∷◌, length, map}
 use Rattle.abc_packet.specs.declared.packets.Packet.{Packet}
 use Rattle.abc_packet.specs.declared.stamped.Stamped.{Stamped}
 use Rattle.abc_packet.specs.declared.log.Deed.{Deed}
@@ -9,8 +9,9 @@ use Rattle.abc_shape.specs.declared.layout.Layout.{Layout}
 use Rattle.abc_shape.specs.Plans.{actor_of}
 use Rattle.abc_number.specs.Counter.{Counter}
 use Rattle.abc_body.specs.Meanings.{Meaning}
-use Rattle.abc_network.specs.Networks.{Net, Actor, Rules, Event, AgentDid, NodeDid, NetStep}
+use Rattle.abc_network.specs.Networks.{Net, Actor, Rules, Event, AgentDid, NodeDid, NetStep, drawn_in}
 use Rattle.abc_network.specs.Nodes.{NodeMachine}
+use Rattle.abc_network_laws.specs.Flows.{deed_of}
 use Rattle.abc_history.specs.Nodes.{SeenNode}
 use Rattle.abc_agent.specs.Members.{Member}
 use Rattle.abc_agent.specs.Ways.{way_of}
@@ -19,6 +20,7 @@ use Rattle.abc_world.specs.declared.event.Moved.{Moved}
 use Rattle.abc_world.specs.declared.event.Moved.TheVariants.{Done, NotEnabled}
 use Rattle.abc_world.specs.Kinds.{IsOfKind, IsPass}
 use Rattle.abc_world.specs.Teams.{actor_in}
+use Rattle.abc_world.specs.Enabled.{Enabled, IsNextDraw}
 
 -- A network: its plan, the greatest number that is drawn, where the turns begin, and its state.
 pub record Running (B L N : Type 0) : Type 0 where
@@ -78,17 +80,22 @@ abbrev pub IsEvent : {L : Type 0} → Layout → ℕ → EventKind → Event L �
 IsEvent p actor kind (AgentDid i e) = (i ≡ actor) × IsOfKind kind e.deed
 IsEvent p actor kind (NodeDid k e) = (actor_of p k ≡ actor) × IsOfKind kind e.deed
 
--- The network made such an event,
+-- The network made such an event, and drew the next number where it drew one,
 pub record Steps {B L N : Type 0} (m : Meaning B L) (r : Rules L N) (actor : ℕ) (kind : EventKind)
     (w w' : Net B L N) : Type 0 where
   pub event : Event L
   pub is : IsEvent r.plan actor kind event
   pub step : NetStep m r w event w'
+  pub draws : IsNextDraw r.limit (length w.drawn) (drawn_in (deed_of event))
 
 -- or it has none.
 abbrev pub HasNone : {B L N : Type 0} → Meaning B L → Rules L N → ℕ → EventKind → Net B L N → Type 0
 HasNone {B} {L} {N} m r actor kind w =
     (e : Event L) (w' : Net B L N) → IsEvent r.plan actor kind e → NetStep m r w e w' → ⊥
+
+-- It can't, and has none.
+abbrev pub Lacks : {B L N : Type 0} → Meaning B L → Rules L N → ℕ → EventKind → Net B L N → Type 0
+Lacks m r actor kind w = (Enabled m r kind actor w → ⊥) × HasNone m r actor kind w
 
 -- It is the same network, in another state.
 pub record SameNetwork {B L N : Type 0} (old new : Running B L N) : Type 0 where
@@ -102,4 +109,4 @@ abbrev pub Answers : {B L N : Type 0} → Meaning B L → (Layout → NodeMachin
 Answers m machine blank actor kind old Done new =
     Steps m (rules_of machine blank old.plan old.limit old.pick) actor kind old.net new.net
 Answers m machine blank actor kind old NotEnabled new =
-    HasNone m (rules_of machine blank old.plan old.limit old.pick) actor kind old.net × (new ≡ old)
+    Lacks m (rules_of machine blank old.plan old.limit old.pick) actor kind old.net × (new ≡ old)

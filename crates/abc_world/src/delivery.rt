@@ -11,12 +11,12 @@ ghost use Rattle.abc_world.specs.Kinds.{ArrivesOn};
 ghost use Rattle.abc_world.specs.Teams.{AgentMade};
 ghost use Rattle.abc_world.specs.Crews.{NodeMade};
 
+use crate::counter::OneCounter;
 use crate::links::Links;
 use crate::node::Node;
 use crate::{moving, passing};
 use abc_agent::Agent;
 use abc_body::Body;
-use abc_number::PlainCounter;
 use abc_packet::{MOST_CLOCK, NoMemory, Stamped};
 
 /// The first packet of a link with one more owner of its label; None where nothing is on the link.
@@ -76,7 +76,7 @@ pub(crate) fn to_node<L: Drop, M: Node<L>>(
     nodes: &mut Vec<M>,
     k: u32,
     link: u32,
-    numbers: &mut PlainCounter,
+    numbers: &mut OneCounter,
     links: &mut Links<L>,
 ) -> Result<bool, NoMemory>
     requires there { k < length nodes.old.items }

@@ -1,6 +1,7 @@
 //! The links of a network on one thread.
-ghost use Rattle.std.specs.Prelude.{◌≡◌, ◌<◌, ◌≤◌, ◌+◌, [], ◌∷◌, List, ℕ, length, replicate, slice_get, IfOk, IfSome, IfNone, IsTrue, ◌↔◌, OnOk, OnErr};
+ghost use Rattle.std.specs.Prelude.{◌≡◌, ◌<◌, ◌≤◌, ◌+◌, [], ◌∷◌, List, ℕ, length, replicate, slice_get, IfOk, IfSome, IfNone, MatchBool, IsTrue, ◌↔◌, OnOk, OnErr};
 ghost use Rattle.std.specs.Option.{option_copied};
+ghost use Rattle.abc_packet.specs.declared.stamped.Stamped.{Stamped};
 ghost use Rattle.abc_packet.specs.Outlets.{Sends, SameLists, SameLinks};
 ghost use Rattle.abc_shape.specs.Plans.{link_count};
 ghost use Rattle.abc_pool.specs.Queues.{items_in, Pops};
@@ -47,6 +48,19 @@ impl<L> Links<L> {
         ensures first { option_copied result ≡ slice_get (items_in self.now link) 0 }
     {
         self.pool.front(link)
+    }
+
+    /// Whether a packet is on a link.
+    pub fn waits(&self, link: u32) -> bool
+        requires there { link < length self.now.queues }
+        ensures { MatchBool result
+            ((x : Stamped L) × (q : List (Stamped L)) × (items_in self.now link ≡ x ∷ q))
+            (items_in self.now link ≡ []) }
+    {
+        match self.pool.front(link) {
+            Some(_first) => true,
+            None => false,
+        }
     }
 
     /// Takes the first packet of a link; None where nothing is on it.

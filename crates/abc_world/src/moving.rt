@@ -97,13 +97,24 @@ pub(crate) fn arrive<B: Body>(
 }
 
 /// Whether agent i can take the message of the next number.
-fn can_take<B: Body>(agents: &[Agent<'_, B>], i: u32) -> bool
+pub(crate) fn can_take<B: Body>(agents: &[Agent<'_, B>], i: u32) -> bool
     requires there { i < length agents.now }
     ensures can { MatchBool result
         ((a : Member B B.Label) → slice_get agents.now i ≡ Some a → CanTake a.actor.state)
         ((a : Member B B.Label) → slice_get agents.now i ≡ Some a → ¬ CanTake a.actor.state) }
 {
     agents[i as usize].can_take()
+}
+
+/// Whether agent i can ask for a number.
+pub(crate) fn can_ask<B: Body>(agents: &[Agent<'_, B>], i: u32) -> bool
+    requires there { i < length agents.now }
+    ensures can { MatchBool result
+        ((a : Member B B.Label) → slice_get agents.now i ≡ Some a → CanAsk B.meaning a.actor.state)
+        ((a : Member B B.Label) → slice_get agents.now i ≡ Some a →
+        ¬ CanAsk B.meaning a.actor.state) }
+{
+    agents[i as usize].can_ask()
 }
 
 /// Agent i takes the message of the next number, if it can, and answers whether it did.
@@ -130,7 +141,7 @@ pub(crate) fn take_if_can<B: Body>(
 }
 
 /// Whether agent i can have its turn at the next number.
-fn can_turn<B: Body>(agents: &[Agent<'_, B>], i: u32) -> bool
+pub(crate) fn can_turn<B: Body>(agents: &[Agent<'_, B>], i: u32) -> bool
     requires there { i < length agents.now }
     ensures can { MatchBool result
         ((a : Member B B.Label) → slice_get agents.now i ≡ Some a → CanTurn a.actor.state)

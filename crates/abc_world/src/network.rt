@@ -1,17 +1,23 @@
-ghost use Rattle.std.specs.Prelude.{◌≡◌, ◌<◌, ◌≤◌, ◌-◌, ◌+◌, ℕ, length, map, Some, slice_get, MatchBool, IfOk, OnErr, IsTrue};
-ghost use Rattle.abc_shape.specs.Plans.{IsLink, actor_of};
+ghost use Rattle.std.specs.Prelude.{◌≡◌, ◌<◌, ◌≤◌, ◌-◌, ◌+◌, ◌*◌, ℕ, length, map, [], vec_capacity, Some, slice_get, MatchBool, IfOk, OnErr, IsTrue};
+ghost use Rattle.abc_shape.specs.Plans.{IsLink, actor_of, link_count};
 ghost use Rattle.abc_schedule.specs.Laws.{ClocksWithin};
-ghost use Rattle.abc_world.specs.Runnings.{SameNetwork, Answers};
+ghost use Rattle.abc_schedule.specs.Schedules as Schedules;
+ghost use Rattle.abc_net.specs.Records as Records;
+ghost use Rattle.abc_world.specs.Teams.{AreAgents};
+ghost use Rattle.abc_world.specs.Crews.{AreNodes};
+ghost use Rattle.abc_world.specs.Runnings.{SameNetwork, Answers, net_of};
 ghost use Rattle.abc_world.specs.declared.event.EventKind.TheVariants.{Ask, Arrive, Take, Turn, Pass};
 
+use crate::counter::OneCounter;
 use crate::event::{Event, EventKind, Moved};
 use crate::links::Links;
 use crate::node::Node;
+use crate::records::{leave_agents, leave_nodes};
 use crate::{delivery, moving, passing};
 use abc_agent::Agent;
 use abc_body::Body;
-use abc_number::PlainCounter;
-use abc_packet::{MOST_CLOCK, NoMemory};
+use abc_net::Record;
+use abc_packet::{List, Log, MOST_CLOCK, NoMemory};
 use abc_shape::Plan;
 use std::alloc::Global;
 use std::marker::Model;
@@ -19,17 +25,16 @@ use std::marker::Model;
 /// A network of agents and sequencing nodes of one kind, on one thread.
 ///
 /// Contracts see its plan, the greatest number that is drawn, where the turns begin, and the state
-/// of
-/// the network that it is.
+/// of the network that it is.
 #[derive(Drop)]
 pub struct Network<'p, B: Body, M: Node<B::Label>> {
-    plan: &'p Plan,
-    pick: u64,
-    agents: Vec<Agent<'p, B>>,
-    nodes: Vec<M>,
-    links: Links<B::Label>,
-    numbers: PlainCounter,
-    alloc: Global,
+    pub(crate) plan: &'p Plan,
+    pub(crate) pick: u64,
+    pub(crate) agents: Vec<Agent<'p, B>>,
+    pub(crate) nodes: Vec<M>,
+    pub(crate) links: Links<B::Label>,
+    pub(crate) numbers: OneCounter,
+    pub(crate) alloc: Global,
 }
 
 impl<'p, B: Body, M: Node<B::Label>> Model for Network<'p, B, M> {
@@ -74,6 +79,48 @@ fn ends_at(plan: &Plan, link: u32, actor: u32) -> bool
 }
 
 impl<'p, B: Body, M: Node<B::Label>> Network<'p, B, M> {
+    /// The network of these agents, nodes, links and counter.
+    pub(crate) fn new(
+        alloc: Global,
+        plan: &'p Plan,
+        pick: u64,
+        agents: Vec<Agent<'p, B>>,
+        nodes: Vec<M>,
+        links: Links<B::Label>,
+        numbers: OneCounter,
+    ) -> Network<'p, B, M>
+        requires agents { AreAgents plan.now pick agents.items }
+        requires nodes { AreNodes plan.now (map M.node nodes.items) }
+        requires links { length links.queues ≡ link_count plan.now }
+        ensures { result ≡ record {
+          plan = plan.now;
+          limit = numbers.limit;
+          pick = pick;
+          net = net_of agents.entry.items (map M.node nodes.items) links.queues numbers;
+        } }
+    {
+        Network {
+            plan,
+            pick,
+            agents,
+            nodes,
+            links,
+            numbers,
+            alloc,
+        }
+    }
+
+    /// One more than the greatest number of events of a run of this network.
+    pub(crate) fn most_events(&self) -> u64
+        ensures { let p = self.now.plan in let limit = self.now.limit in
+            result ≡ 15 * (limit + p.agents) + limit * (2 * p.agents + 2 * p.nodes) + 1 }
+    {
+        let agents = u64::from(self.plan.agents());
+        let nodes = u64::from(self.plan.nodes());
+        let limit = u64::from(self.numbers.limit());
+        15 * (limit + agents) + limit * (2 * agents + 2 * nodes) + 1
+    }
+
     /// An agent asks for a number, if it can.
     fn ask(&mut self, actor: u32) -> Result<Moved, NoMemory>
         requires low { ClocksWithin (MOST_CLOCK - 1) self.old.net }
@@ -147,6 +194,7 @@ impl<'p, B: Body, M: Node<B::Label>> Network<'p, B, M> {
         let node = actor - self.plan.agents();
         let numbers = &mut self.numbers;
         let made = delivery::to_node(&mut self.nodes, node, link, numbers, &mut self.links)?;
+        let _count = self.numbers.count();
         Ok(answer(made))
     }
 
@@ -189,8 +237,7 @@ impl<'p, B: Body, M: Node<B::Label>> Network<'p, B, M> {
     }
 
     /// Makes an event, where the network has it; `NotEnabled`, and nothing changes, exactly where
-    /// it has
-    /// none. A draw of a node is that of the network's one counter. After NoMemory all is as
+    /// it has none. A draw of a node is that of the network's one counter. After NoMemory all is as
     /// before.
     pub fn step(&mut self, event: &Event) -> Result<Moved, NoMemory>
         requires low { ClocksWithin (MOST_CLOCK - 1) self.old.net }
@@ -206,6 +253,38 @@ impl<'p, B: Body, M: Node<B::Label>> Network<'p, B, M> {
             EventKind::Take => self.take(event.actor),
             EventKind::Turn => self.turn(event.actor),
             EventKind::Pass => self.pass(event.actor),
+        }
+    }
+
+    /// Its record, for good. The list has no logs, and room for that of each actor; it takes no
+    /// memory.
+    pub(crate) fn into_record(self, mut logs: Vec<Log<B::Label>>) -> Record<B::Label>
+        requires none { logs.items ≡ [] }
+        requires room { self.plan.agents + self.plan.nodes ≤ vec_capacity logs }
+        ensures shape { result.shape ≡ self.entry.plan.shape }
+        ensures agents { result.agents ≡ self.entry.plan.agents }
+        ensures nodes { result.nodes ≡ self.entry.plan.nodes }
+        ensures limit { result.limit ≡ self.entry.limit }
+        ensures pick { result.pick ≡ self.entry.pick }
+        ensures logs { Records.logs_of result ≡ Schedules.logs_of self.entry.net }
+    {
+        let Network {
+            plan,
+            pick,
+            agents,
+            nodes,
+            numbers,
+            ..
+        } = self;
+        leave_agents(agents, &mut logs);
+        leave_nodes(nodes, &mut logs);
+        Record {
+            shape: plan.shape(),
+            agents: plan.agents(),
+            nodes: plan.nodes(),
+            limit: numbers.limit(),
+            pick,
+            logs: List::from_vec(logs),
         }
     }
 }

@@ -10,8 +10,8 @@ ghost use Rattle.abc_world.specs.Kinds.{IsPass};
 ghost use Rattle.abc_world.specs.Crews.{SameNode, DrewOf, lists_in};
 ghost use Rattle.abc_world.specs.Runnings.{AreNodeTables};
 
+use crate::counter::OneCounter;
 use crate::links::Links;
-use abc_number::PlainCounter;
 use abc_packet::{Log, MOST_CLOCK, NoMemory, Stamped};
 
 /// A sequencing node, as a network on one thread has it.
@@ -34,7 +34,7 @@ pub trait Node<L>: Drop {
         &mut self,
         link: u32,
         stamped: Stamped<L>,
-        numbers: &mut PlainCounter,
+        numbers: &mut OneCounter,
         links: &mut Links<L>,
     ) -> Result<(), NoMemory>
         requires leads { let n = node self.old in
@@ -51,8 +51,7 @@ pub trait Node<L>: Drop {
             × (links.new.queues ≡ links.old.queues)) };
 
     /// Passes the message of the next number on, and answers true; false where it can't, and
-    /// nothing
-    /// changes. Nor does anything after NoMemory.
+    /// nothing changes. Nor does anything after NoMemory.
     fn pass(&mut self, links: &mut Links<L>) -> Result<bool, NoMemory>
         requires leads { let n = node self.old in
             HasLinksFrom n.plan (actor_of n.plan n.number) (λ l. l < length links.old.queues) }

@@ -12,9 +12,9 @@ ghost use Rattle.abc_world.specs.Tables.{OnTables};
 ghost use Rattle.abc_world.specs.Kinds.{IsPass, ArrivesOn};
 ghost use Rattle.abc_world.specs.Crews.{NodeMade};
 
+use crate::counter::OneCounter;
 use crate::links::Links;
 use crate::node::Node;
-use abc_number::PlainCounter;
 use abc_packet::{MOST_CLOCK, NoMemory, Stamped};
 
 /// Node k passes the message of the next number on, if it can, and answers whether it did.
@@ -44,13 +44,25 @@ pub(crate) fn pass<L: Drop, M: Node<L>>(
     nodes[k as usize].pass(links)
 }
 
+/// Whether node k can pass the message of the next number on.
+pub(crate) fn can_pass<L: Drop, M: Node<L>>(nodes: &[M], k: u32) -> bool
+    requires there { k < length nodes.now }
+    ensures can { MatchBool result
+        ((n : M) → slice_get nodes.now k ≡ Some n →
+        (M.machine (M.node n).plan).can_pass (M.node n).actor.state)
+        ((n : M) → slice_get nodes.now k ≡ Some n →
+        ¬ (M.machine (M.node n).plan).can_pass (M.node n).actor.state) }
+{
+    nodes[k as usize].can_pass()
+}
+
 /// A packet arrives at node k, and is still to be taken from its link.
 pub(crate) fn receive<L: Drop, M: Node<L>>(
     nodes: &mut Vec<M>,
     k: u32,
     link: u32,
     stamped: Stamped<L>,
-    numbers: &mut PlainCounter,
+    numbers: &mut OneCounter,
     links: &mut Links<L>,
 ) -> Result<(), NoMemory>
     requires there { k < length nodes.old.items }

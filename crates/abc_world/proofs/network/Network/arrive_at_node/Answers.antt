@@ -8,7 +8,7 @@ use Rattle.abc_world.specs.Kinds.{ArrivesOn}
 use Rattle.abc_world.specs.Runnings.{Answers, Running}
 use Rattle.abc_world.proofs.Among.{stays-by-answer}
 use Rattle.abc_world.proofs.Staying.{nodes-stay}
-use Rattle.abc_world.proofs.Stepping.{node-steps}
+use Rattle.abc_world.proofs.Stepping.{node-steps, drew-next}
 use Rattle.abc_world.proofs.Lacking.{none-arrives_nothing}
 use Rattle.abc_world.proofs.Networked.{node-low, node-leads, nodes-kept, answers-by, running, same-nodes}
 use Rattle.abc_world.proofs.network.Network.arrive_at_node.Goals as goal
@@ -73,6 +73,7 @@ returns-clause-answers g c =
     (same-nodes p s.pick s.agents.items nodes nodes' s.links.queues links' s.numbers numbers') c.in_ok-made.ensures.stays)
     (λ h. node-steps m g.M.Node.machine g.M.Node.blank p s.numbers.limit s.pick k (Arrive c.args.link)
     ((c.args.link, h.0) ∷ []) s.agents.items nodes nodes' s.links.queues links' s.numbers numbers'
-    c.agents.ensures.limits c.self.invariant.2 refl c.self.invariant.1 (from, tt) h.1)
+    c.agents.ensures.limits c.self.invariant.2 refl c.self.invariant.1 (from, tt) h.1
+    (drew-next s.numbers numbers' _ c.count-count.ensures.all h.1.draws))
     (none-arrives_nothing m g.M.Node.machine g.M.Node.blank met.tables p s.numbers.limit s.pick s.agents.items nodes
     s.links.queues s.numbers (actor_of p k) c.args.link)))

@@ -8,7 +8,7 @@ use Rattle.abc_world.specs.Kinds.{IsPass}
 use Rattle.abc_world.specs.Runnings.{Answers, Running}
 use Rattle.abc_world.proofs.Among.{stays-by-answer}
 use Rattle.abc_world.proofs.Staying.{nodes-stay}
-use Rattle.abc_world.proofs.Stepping.{node-steps}
+use Rattle.abc_world.proofs.Stepping.{node-steps, pass-next}
 use Rattle.abc_world.proofs.Lacking.{none-passes}
 use Rattle.abc_world.proofs.Networked.{node-low, node-leads, nodes-kept, answers-by, running, same-nodes, passes-not, nothing-past}
 use Rattle.abc_world.proofs.network.Network.pass.Goals as goal
@@ -100,7 +100,7 @@ returns-clause-answers g c =
     c.in_ok-made.ensures.stays)
     (λ h. node-steps m g.M.Node.machine g.M.Node.blank p s.numbers.limit s.pick k Pass [] s.agents.items nodes nodes'
     s.links.queues links' s.numbers s.numbers c.agents-agents.ensures.limits c.self.invariant.2 refl c.self.invariant.1 tt
-    (h s.numbers))
+    (h s.numbers) (pass-next s.numbers.limit _ (h s.numbers).made.entry.deed (h s.numbers).is))
     (λ cannot. none-passes m g.M.Node.machine g.M.Node.blank met.tables p s.numbers.limit s.pick s.agents.items nodes
     s.links.queues s.numbers (actor_of p k)
     (passes-not g.M.Node.node g.M.Node.machine p s.nodes.items (actor_of p k) k c.self.invariant.1 refl cannot))))
