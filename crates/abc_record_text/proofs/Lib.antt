@@ -1,0 +1,4 @@
+pub mod Stepping
+pub mod Handled
+pub mod LegalTells
+pub mod RecordRun

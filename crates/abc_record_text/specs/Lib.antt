@@ -1,0 +1,2 @@
+pub mod LegalRecords
+pub mod RecordTexts
