@@ -21,3 +21,6 @@ pub mod Shaped
 pub mod Left
 pub mod Legally
 pub mod Ending
+pub mod Quieting
+pub mod Made
+pub mod Fronted

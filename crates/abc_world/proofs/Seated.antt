@@ -50,7 +50,7 @@ pub seat-sound : {B L : Type 0} (P : B → Type 0) (p : Layout) (pick : ℕ) (bo
 seat-sound P p pick bodies agents b left s h = each-after P s.done b left (subst (Each P) (sym s.whole) h)
 
 -- What stands in a list with one more stood there, or is that one.
-last-or : {X : Type 0} (xs : List X) (z : X) (P : ℕ → X → Type 0) → ((i : ℕ) (x : X) → slice_get xs i ≡ Some x → P i x) →
+pub last-or : {X : Type 0} (xs : List X) (z : X) (P : ℕ → X → Type 0) → ((i : ℕ) (x : X) → slice_get xs i ≡ Some x → P i x) →
     P (length xs) z → (i : ℕ) (x : X) → slice_get (xs ++ z ∷ []) i ≡ Some x → P i x
 last-or [] z P f p zero x h = let e : z ≡ x = cc in subst (P 0) e p
 last-or [] z P f p (suc i) x h = absurd (cc)
@@ -58,7 +58,7 @@ last-or (y ∷ xs) z P f p zero x h = f zero x h
 last-or (y ∷ xs) z P f p (suc i) x h = last-or xs z (λ j. P (suc j)) (λ j w k. f (suc j) w k) p i x h
 
 -- Both lists grow alike.
-map-more : {X Y : Type 0} (f : X → Y) (xs : List X) (z : X) → map f (xs ++ z ∷ []) ≡ map f xs ++ f z ∷ []
+pub map-more : {X Y : Type 0} (f : X → Y) (xs : List X) (z : X) → map f (xs ++ z ∷ []) ≡ map f xs ++ f z ∷ []
 map-more f [] z = refl
 map-more f (x ∷ xs) z = ap (λ v. f x ∷ v) (map-more f xs z)
 

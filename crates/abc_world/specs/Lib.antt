@@ -10,3 +10,5 @@ pub mod NodeTables
 pub mod Listing
 pub mod Starting
 pub mod ShapeLaws
+pub mod Fronts
+pub mod Worlds

@@ -2,8 +2,10 @@
 //! events, one after the other.
 #![tactic(auto)]
 
+mod awake;
 mod cluster;
 mod counter;
+mod crew;
 mod delivery;
 mod event;
 mod in_links;
@@ -14,12 +16,14 @@ mod moving;
 mod network;
 mod node;
 mod passing;
+mod quiet;
 mod records;
 mod ring;
 mod started;
 mod store;
 mod team;
 mod tree;
+mod world;
 
 pub use abc_packet::NoMemory;
 pub use counter::OneCounter;
@@ -30,3 +34,4 @@ pub use network::Network;
 pub use node::Node;
 pub use started::Started;
 pub use store::NodeStore;
+pub use world::World;

@@ -6,6 +6,7 @@ ghost use Rattle.abc_packet.specs.Outlets.{Sends, SameLists, SameLinks};
 ghost use Rattle.abc_shape.specs.Plans.{link_count};
 ghost use Rattle.abc_pool.specs.Queues.{items_in, Pops};
 
+use crate::awake::Awake;
 use abc_packet::{NoMemory, Outlet, Stamped};
 use abc_pool::Pool;
 use abc_shape::Plan;
@@ -19,6 +20,9 @@ use std::marker::Model;
 #[derive(Drop)]
 pub struct Links<L> {
     pool: Pool<Stamped<L>>,
+    // the actor at which each link ends, and those to which something may have been sent
+    ends: Vec<u32>,
+    awake: Awake,
 }
 
 impl<L> Model for Links<L> {
@@ -30,6 +34,16 @@ impl<L> Model for Links<L> {
     ghost view = { λ l. l.pool };
 }
 
+/// The actor at which each link of a plan ends.
+fn ends_of(alloc: Global, plan: &Plan) -> Result<Vec<u32>, NoMemory> {
+    let links = plan.links();
+    let mut ends = Vec::with_capacity(alloc, links.len())?;
+    'listing: for link in links {
+        ends.push(link.to)?;
+    }
+    Ok(ends)
+}
+
 impl<L> Links<L> {
     /// The links of a plan, with nothing on them.
     #[tactic(auto, using(crate::proofs::Few::few_links))]
@@ -38,8 +52,10 @@ impl<L> Links<L> {
     {
         let _agents = plan.agents();
         let count = plan.links().len();
+        let ends = ends_of(alloc, plan)?;
+        let awake = Awake::all();
         let pool = Pool::with_queues(alloc, count as u32)?;
-        Ok(Links { pool })
+        Ok(Links { pool, ends, awake })
     }
 
     /// The first packet of a link, which stays; None where nothing is on it.
@@ -72,6 +88,18 @@ impl<L> Links<L> {
         ensures same { IfNone result (self.new ≡ self.old) }
     {
         self.pool.pop(link)
+    }
+
+    /// The first actor to which something may have been sent since it was put to rest.
+    pub(crate) fn first_awake(&self) -> Option<u32> {
+        self.awake.first()
+    }
+
+    /// An actor that can do nothing is put to rest, until something is sent to it.
+    pub(crate) fn rest(&mut self, actor: u32)
+        ensures { self.new ≡ self.old }
+    {
+        self.awake.rest(actor);
     }
 
     /// Whether nothing is on any link.
@@ -113,5 +141,8 @@ impl<L: Drop> Outlet<L> for Links<L> {
         ensures room { self.old.spare ≤ self.new.spare + 1 }
     {
         self.pool.push(link, stamped);
+        if let Some(end) = self.ends.get(link as usize) {
+            self.awake.wake(*end);
+        }
     }
 }

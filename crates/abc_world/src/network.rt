@@ -110,6 +110,25 @@ impl<'p, B: Body, M: Node<B::Label>> Network<'p, B, M> {
         }
     }
 
+    /// How many actors it has.
+    pub(crate) fn actors(&self) -> u32
+        ensures { let p = self.now.plan in result ≡ p.agents + p.nodes }
+    {
+        self.plan.agents() + self.plan.nodes()
+    }
+
+    /// The first actor that may have an event to make.
+    pub(crate) fn first_awake(&self) -> Option<u32> {
+        self.links.first_awake()
+    }
+
+    /// An actor that can make no event is put to rest, until something is sent to it.
+    pub(crate) fn rest(&mut self, actor: u32)
+        ensures { self.new ≡ self.old }
+    {
+        self.links.rest(actor);
+    }
+
     /// One more than the greatest number of events of a run of this network.
     pub(crate) fn most_events(&self) -> u64
         ensures { let p = self.now.plan in let limit = self.now.limit in

@@ -1,10 +1,11 @@
-ghost use Rattle.std.specs.Prelude.{◌≡◌, ◌<◌, ◌≤◌, ◌+◌, length, map, IfOk, OnOk, OnErr, IfNone, IfSome};
+ghost use Rattle.std.specs.Prelude.{◌≡◌, ◌<◌, ◌≤◌, ◌+◌, length, map, IfOk, OnOk, OnErr, IfNone, IfSome, MatchBool};
 ghost use Rattle.abc_shape.specs.Plans.{IsLayout};
 ghost use Rattle.abc_network.specs.Networks.{Netrun, Event, start_of};
-ghost use Rattle.abc_network.specs.Quiets.{IsStill};
+ghost use Rattle.abc_network.specs.Quiets.{IsStill, IsQuiet};
 ghost use Rattle.abc_network_laws.specs.Kept.{Each};
 ghost use Rattle.abc_world.specs.Crews.{AreNodes};
 ghost use Rattle.abc_world.specs.Listing.{CanMake, IsStillIn};
+ghost use Rattle.abc_world.specs.Fronts.{IsLeastFront};
 ghost use Rattle.abc_world.specs.Runnings.{SameNetwork, Answers, rules_of};
 ghost use Rattle.abc_world.specs.Starting.{HasLaws, AreBlank, RunsTo, LeavesLegal, started};
 ghost use Rattle.abc_schedule.specs.Schedules as Schedules;
@@ -121,6 +122,61 @@ impl<'p, B: Body, M: Node<B::Label>> Started<'p, B, M> {
         Ok(Some(self.events[place as usize]))
     }
 
+    /// The first event that an actor can make. Where it can make none it is put to rest.
+    fn first_of(&mut self, actor: u32) -> Result<Option<Event>, NoMemory>
+        requires there { actor < self.old.plan.agents + self.old.plan.nodes }
+        ensures same { self.new ≡ self.old }
+        ensures some { IfOk result (λ o. IfSome o
+            (λ e. CanMake B.meaning M.machine M.blank self.old e)) }
+    {
+        self.events.clear();
+        self.network
+            .add_of(actor, self.in_links.as_slice(), &mut self.events)?;
+        if self.events.len() == 0 {
+            self.network.rest(actor);
+            return Ok(None);
+        }
+        Ok(Some(self.events[0]))
+    }
+
+    /// The first event of the first actor that may have one. None says nothing of the network.
+    fn first_awake(&mut self) -> Result<Option<Event>, NoMemory>
+        ensures same { self.new ≡ self.old }
+        ensures some { IfOk result (λ o. IfSome o
+            (λ e. CanMake B.meaning M.machine M.blank self.old e)) }
+    {
+        let actors = self.network.actors();
+        'looking: for _ in 0..actors {
+            let Some(actor) = self.network.first_awake() else {
+                return Ok(None);
+            };
+            if actor >= actors {
+                return Ok(None);
+            }
+            if let Some(event) = self.first_of(actor)? {
+                return Ok(Some(event));
+            }
+        }
+        Ok(None)
+    }
+
+    /// The event that `order` picks, as `next` tells it. Where that is the first, the actors that
+    /// have nothing to do are not asked again.
+    fn pick(&mut self, order: u64) -> Result<Option<Event>, NoMemory>
+        ensures same { self.new ≡ self.old }
+        ensures some { IfOk result (λ o. IfSome o
+            (λ e. CanMake B.meaning M.machine M.blank self.old e)) }
+        ensures none { IfOk result (λ o. IfNone o
+            (IsStillIn B.meaning M.machine M.blank self.old)) }
+    {
+        if order == 0 {
+            if let Some(event) = self.first_awake()? {
+                return Ok(Some(event));
+            }
+        }
+        self.next(order)
+    }
+
     /// Makes events until none can be made, each time the one at place `order` modulo their number,
     /// in order of actor and then of what it does. After NoMemory the events made stand whole.
     pub fn run_to_quiet(&mut self, order: u64) -> Result<(), NoMemory>
@@ -130,12 +186,27 @@ impl<'p, B: Body, M: Node<B::Label>> Started<'p, B, M> {
     {
         let most = self.network.most_events();
         'running: for _ in 0..most {
-            let Some(event) = self.next(order)? else {
+            let Some(event) = self.pick(order)? else {
                 return Ok(());
             };
             self.step(&event)?;
         }
         Ok(())
+    }
+
+    /// The least of all agents' fronts: up to it, every agent has moved.
+    pub fn least_front(&self) -> u32
+        ensures { IsLeastFront self.now result }
+    {
+        self.network.least_front()
+    }
+
+    /// Whether it is quiet: nothing is on a link, no message is stored, and no actor can do anything.
+    pub fn is_quiet(&self) -> bool
+        ensures { let r = rules_of M.machine M.blank self.now.plan self.now.limit self.now.pick in
+            MatchBool result (IsQuiet B.meaning r self.now.net) (¬ IsQuiet B.meaning r self.now.net) }
+    {
+        self.network.is_still()
     }
 
     /// What is left of it: the record with the plan's shape and numbers, the limit, the pick, and
