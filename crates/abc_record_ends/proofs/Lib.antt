@@ -1,0 +1,6 @@
+pub mod Closing
+pub mod Rows
+pub mod Ending
+pub mod ByShape
+pub mod BothRuns
+pub mod Silence
