@@ -1,5 +1,5 @@
 -- The text of a record's run that is made from what a program begins with is that of the run from its first system.
-use Rattle.std.proofs.Common.{◌≡◌, ◌∙◌, inl, inr, ℕ, List, ◌++◌, length, map, refl, ap, sym, subst, arith}
+use Rattle.std.proofs.Common.{◌≡◌, ◌∙◌, ◌⊎◌, inl, inr, ℕ, List, ◌++◌, length, map, refl, ap, sym, subst, arith}
 use Rattle.std.specs.Prelude.{Bool, true, false, IsTrue, ◌↔◌}
 use Rattle.std.proofs.lemmas.List.{length-map}
 use Rattle.abc_packet.specs.declared.choice.Choice.{Choice}
@@ -23,6 +23,7 @@ use Rattle.abc_trace.specs.Lines.{head_text, node_text, end_text}
 use Rattle.abc_trace.specs.Texts.{numbered}
 use Rattle.abc_run_text.specs.TextOf.{row_text, envs_text, run_text}
 use Rattle.abc_net.specs.declared.record.Record.{Record}
+use Rattle.abc_record_text.proofs.LegalTells.{EndsWell}
 use Rattle.abc_record_text.specs.RecordTexts.{CanRun, WritesRun, AreChoicesOf, IsRecordText, head_in, handled_in}
 
 -- what is a run from a system is one from each that is alike
@@ -56,8 +57,8 @@ pub record WritesRecord (p : Program) (ran : Record Label) (choices : List Choic
 pub record_from :
     (p : Program) (ran : Record Label) (choices : List Choice) (first now : System) (envs : List Entries) (out₀ out₁ out₂ out₃ out₄ : List ℕ)
     → AreAlike (system_in first) (system_of p) → definitions_in first ≡ definitions_of p.definitions → AreChoicesOf ran choices
-    → WritesRecord p ran choices first now envs out₀ out₁ out₂ out₃ out₄ → IsRecordText p ran out₄
-record_from p ran choices first now envs out₀ out₁ out₂ out₃ out₄ alike program numbering all =
+    → EndsWell p ran.limit choices → WritesRecord p ran choices first now envs out₀ out₁ out₂ out₃ out₄ → IsRecordText p ran out₄
+record_from p ran choices first now envs out₀ out₁ out₂ out₃ out₄ alike program numbering well all =
     let defs = definitions_of p.definitions in
     let rows = map row_of all.run.steps in
     let truth = silence defs (system_in now) in
@@ -77,6 +78,9 @@ record_from p ran choices first now envs out₀ out₁ out₂ out₃ out₄ alik
       last = replay.run.last;
       run = replay.run.told;
       chosen = replay.chosen;
+      ends = subst (λ (n : ℕ). (n ≡ ran.limit) ⊎ systems.IsSilent defs replay.run.last) many (well replay.run.last
+          (subst (λ (cs : List systems.Choice). systems.Runs defs (system_of p) cs replay.run.last) replay.chosen
+          (rows_tell_runs defs (system_of p) rows replay.run.last replay.run.told)));
       written =
           all.end
           ∙ ap (λ (t : List ℕ). t ++ end_text ran.limit (length choices))

@@ -1,8 +1,8 @@
 -- The trace of a record.
-use Rattle.std.specs.Prelude.{◌≡◌, ◌++◌, ℕ, List, length, map, drop}
+use Rattle.std.specs.Prelude.{◌≡◌, ◌⊎◌, ◌++◌, ℕ, List, length, map, drop}
 use Rattle.abc_packet.specs.declared.choice.Choice.{Choice}
 use Rattle.abc_term.specs.Processes as term
-use Rattle.abc_term.specs.Systems.{Runs}
+use Rattle.abc_term.specs.Systems.{Runs, IsSilent}
 use Rattle.abc_term.specs.Standing.{definitions_of, system_of}
 use Rattle.abc_term.specs.declared.terms.Program.{Program}
 use Rattle.abc_moves.specs.declared.label.Label.{Label}
@@ -34,7 +34,8 @@ pub record AreChoicesOf {L : Type 0} (ran : Record L) (choices : List Choice) : 
   pub told : AreChoices (agents_logs ran) 1 choices
 
 -- The text is the trace of the run of the calculus from the program's first system that the
--- record's choices are, under the head of the record and with what its nodes handled.
+-- record's choices are, under the head of the record and with what its nodes handled. It ends at the
+-- limit, or where no component can speak.
 pub record IsRecordText (p : Program) (ran : Record Label) (text : List ℕ) : Type 0 where
   pub choices : List Choice
   pub numbering : AreChoicesOf ran choices
@@ -42,6 +43,7 @@ pub record IsRecordText (p : Program) (ran : Record Label) (text : List ℕ) : T
   pub last : term.System
   pub run : TellRun (definitions_of p.definitions) (system_of p) rows last
   pub chosen : map choice_of_row rows ≡ map choice_of choices
+  pub ends : (length rows ≡ ran.limit) ⊎ IsSilent (definitions_of p.definitions) last
   pub written : text ≡ text_of p (head_in ran) rows last (handled_in ran)
 
 -- ---- as it is made

@@ -55,6 +55,7 @@ returns c =
     record_from program ran told first last envs c.write_head.new.out c.write_steps.new.out c.write_envs.new.out c.write_nodes.new.out
     c.write_end.new.out c.in_ok-system.ensures.system c.in_ok-system.ensures.program
     (record { numbered = c.in_ok-told.ensures.count; told = c.in_ok-told.ensures.choices })
+    ((record_tells program ran c.requires.legal).ends told c.in_ok-told.ensures.count c.in_ok-told.ensures.choices)
     (record {
       head = head;
       run = run;
