@@ -20,12 +20,17 @@ use Rattle.abc_grammar.specs.TextLaws.{AreAlike}
 use Rattle.abc_printed.specs.Parts.{bytes_of}
 use Rattle.abc_printed.specs.Forms.{program_parts}
 use Rattle.abc_printed.specs.Printed.{program_text}
+use Rattle.abc_moves.specs.declared.label.Label as moves
+use Rattle.abc_net.specs.declared.record.Record.{Record}
 use Rattle.abc_trace.specs.declared.trace.Head.{Head}
 use Rattle.abc_trace.specs.declared.trace.Head.TheVariants.{Solo}
 use Rattle.abc_trace.specs.Lines.{head_text, said_text, empty_text, env_text, node_text, end_text}
 use Rattle.abc_trace.specs.Texts.{numbered, limit_of}
 use Rattle.abc_run_text.specs.TextOf.{name_at, step_text, row_text, envs_text, text_of}
 use Rattle.abc_run_text.specs.SoloTexts.{IsSoloText}
+use Rattle.abc_system.specs.Systems.{choice_of}
+use Rattle.abc_record_text.specs.RecordTexts.{IsRecordText, head_in, handled_in}
+use Rattle.abc_runner.proofs.OneNumbering.{one_numbering}
 
 -- ---- what the plain components give
 -- a component at the beginning of a run
@@ -118,13 +123,18 @@ module _ (p q : Program) (alike : AreAlike p q) where
       head_text head ++ numbered (λ n r. same_row n r t) 1 rows ++ same_envs (map (λ C. C.env) last) t
       ++ numbered node_text 0 handled ++ end_text (limit_of head) (length rows)
 
-  -- and one trace of the run by the rule of places.
+  -- the same runs told by rows,
+  same_run : (rows : List Row) (last : term.System) → TellRun (definitions_of p.definitions) (system_of p) rows last →
+      TellRun (definitions_of q.definitions) (system_of q) rows last
+  same_run rows last told =
+      subst (λ (S : term.System). TellRun (definitions_of q.definitions) S rows last) same_system
+      (subst (λ (d : term.Definitions). TellRun d (system_of p) rows last) same_definitions told)
+
+  -- one trace of the run by the rule of places,
   pub one_solo : (limit pick : ℕ) (text text' : List ℕ) → IsSoloText p limit pick text → IsSoloText q limit pick text' → text ≡ text'
   one_solo limit pick text text' h k =
       let defs = definitions_of q.definitions in
-      let told : TellRun defs (system_of q) h.rows h.last =
-      subst (λ (S : term.System). TellRun defs S h.rows h.last) same_system
-      (subst (λ (d : term.Definitions). TellRun d (system_of p) h.rows h.last) same_definitions h.run.told) in
+      let told = same_run h.rows h.last h.run.told in
       let ruled : RunsByTurns defs limit pick (system_of q) (map choice_of_row h.rows) h.last =
       subst (λ (S : term.System). RunsByTurns defs limit pick S (map choice_of_row h.rows) h.last) same_system
       (subst (λ (d : term.Definitions). RunsByTurns d limit pick (system_of p) (map choice_of_row h.rows) h.last) same_definitions h.run.ruled) in
@@ -133,3 +143,14 @@ module _ (p q : Program) (alike : AreAlike p q) where
       let rows = rows_are_determined defs (system_of q) h.rows k.rows h.last k.last told k.run.told choices.0 in
       h.written ∙ same_trace (Solo limit pick) h.rows h.last [] ∙ (λ t. text_of q (Solo limit pick) (rows.0 t) (rows.1 t) [])
       ∙ sym k.written
+
+  -- and one trace of a record, which tells one run.
+  pub one_record : (ran ran' : Record moves.Label) (text text' : List ℕ) → ran ≡ ran' → IsRecordText p ran text → IsRecordText q ran' text' →
+      text ≡ text'
+  one_record ran ran' text text' same h k =
+      let defs = definitions_of q.definitions in
+      let choices = one_numbering ran ran' h.choices k.choices same h.numbering k.numbering in
+      let chosen : map choice_of_row h.rows ≡ map choice_of_row k.rows = h.chosen ∙ ap (λ cs. map choice_of cs) choices ∙ sym k.chosen in
+      let rows = rows_are_determined defs (system_of q) h.rows k.rows h.last k.last (same_run h.rows h.last h.run) k.run chosen in
+      h.written ∙ same_trace (head_in ran) h.rows h.last (handled_in ran)
+      ∙ (λ t. text_of q (head_in (same t)) (rows.0 t) (rows.1 t) (handled_in (same t))) ∙ sym k.written

@@ -4,21 +4,24 @@ use Rattle.std.specs.Io.KnownBytes.{Appends, IsAtEnd}
 use Rattle.abc_cause.specs.declared.Cause.{Cause}
 use Rattle.abc_io.specs.Devices.{Rose}
 use Rattle.abc_io.specs.Whole.{HasRead}
+use Rattle.abc_moves.specs.declared.label.Label.{Label}
+use Rattle.abc_net.specs.declared.record.Record.{Record}
 use Rattle.abc_runner.specs.declared.command.Command.{Command}
-use Rattle.abc_runner.specs.declared.command.Command.TheVariants.{Solo, Print, Other}
+use Rattle.abc_runner.specs.declared.command.Command.TheVariants.{Solo, Net, Print, Other}
 use Rattle.abc_runner.specs.declared.status.Status.{Status}
 use Rattle.abc_runner.specs.declared.status.Status.TheVariants.{Done, BadWords, Unbuilt, TooMuch, TooLong, Refused, ReadFault, WriteFault, NoMemory}
 use Rattle.abc_runner.specs.declared.answer.Answer.{Answer}
-use Rattle.abc_runner.specs.declared.answer.Answer.TheVariants.{Text, Refusal, Line}
+use Rattle.abc_runner.specs.declared.answer.Answer.TheVariants.{Text, Trace, Refusal, Line}
 use Rattle.abc_runner.specs.declared.limits.TheConstants.{MOST_SOURCE}
 use Rattle.abc_runner.specs.Statuses.{line_of}
-use Rattle.abc_runner.specs.Answers.{whole_of, due_of, IsAfter, IsReadAnswer, IsAnswer}
+use Rattle.abc_runner.specs.Answers.{whole_of, due_of, ran_of, IsAfter, IsReadAnswer, IsAnswer}
 use Rattle.abc_runner.specs.Outcomes.{Ends, EndsAs, IfWriteFault, IsCut, IsOfWholeText, IsRefusal, IsTextStatus, ReadsText, cut_short}
 
 -- ---- the answers that there are
 -- What an answer can be after the source was read: its cases with what each gives, so that a fact of all answers is shown case by case.
 pub data Case (c : Command) (f f' : ℕ) (l' : Option (List ℕ)) (read : List ℕ) : Answer → Type 0 where
   text : {t : List ℕ} → length read ≤ MOST_SOURCE → f' ≡ f → IsAtEnd l' → Case c f f' l' read (Text t)
+  trace : {t : List ℕ} {r : Record Label} → length read ≤ MOST_SOURCE → f' ≡ f → IsAtEnd l' → Case c f f' l' read (Trace t r)
   refused :
       {place : ℕ} {cause : Cause} {line : List ℕ} → length read ≤ MOST_SOURCE → f' ≡ f → IsAtEnd l' → line ≡ line_of (Refused place cause) →
       Case c f f' l' read (Line (Refused place cause) line)
@@ -32,6 +35,7 @@ pub data Case (c : Command) (f f' : ℕ) (l' : Option (List ℕ)) (read : List �
 -- each answer that there is after the source was read is one of them
 pub case_of : (c : Command) (a : Answer) (f f' : ℕ) (l' : Option (List ℕ)) (read : List ℕ) → IsAfter c a f f' l' read → Case c f f' l' read a
 case_of c (Text t) f f' l' read i = text i.0 i.1 i.2
+case_of c (Trace t r) f f' l' read i = trace i.0 i.1 i.2
 case_of c (Refusal Done) f f' l' read i = absurd i
 case_of c (Refusal BadWords) f f' l' read i = absurd i
 case_of c (Refusal Unbuilt) f f' l' read i = absurd i
@@ -56,6 +60,7 @@ pub read_answer : (w : Option Command) (a : Answer) (f f' : ℕ) (l l' : Option 
     (c : Command) × IsReadAnswer c a f f' l l'
 read_answer None a f f' l l' h i = absurd h
 read_answer (Some (Solo limit pick)) a f f' l l' h i = (Solo limit pick, i)
+read_answer (Some (Net shape limit nodes workers pick)) a f f' l l' h i = (Net shape limit nodes workers pick, i)
 read_answer (Some Print) a f f' l l' h i = (Print, i)
 read_answer (Some Other) a f f' l l' h i = absurd h
 
@@ -69,6 +74,7 @@ pub data Answered (w : Option Command) (f f' : ℕ) (l l' : Option (List ℕ)) (
 pub answered : (w : Option Command) (a : Answer) (f f' : ℕ) (l l' : Option (List ℕ)) → IsAnswer w a f f' l l' → Answered w f f' l l' a
 answered None a f f' l l' i = none refl i.0 i.1
 answered (Some (Solo limit pick)) a f f' l l' i = read (Solo limit pick) tt i
+answered (Some (Net shape limit nodes workers pick)) a f f' l l' i = read (Net shape limit nodes workers pick) tt i
 answered (Some Print) a f f' l l' i = read Print tt i
 answered (Some Other) a f f' l l' i = other refl i.0 i.1
 
@@ -78,7 +84,9 @@ module _ (c : Command) (f f' : ℕ) (l' : Option (List ℕ)) (read : List ℕ) (
   pub long_after : (a : Answer) (s : Status) → Ends (whole_of a) (due_of a) s k k' t t' → Case c f f' l' read a → s ≡ TooLong →
       MOST_SOURCE < length read
   long_after a s (inl e) (text m same end) h = cc
+  long_after a s (inl e) (trace m same end) h = cc
   long_after a s (inr e) (text m same end) h = cc
+  long_after a s (inr e) (trace m same end) h = cc
   long_after a s (inl e) (refused m same end line) h = cc
   long_after a s (inr e) (refused m same end line) h = cc
   long_after a s (inl e) (too_much m same end line) h = cc
@@ -93,6 +101,7 @@ module _ (c : Command) (f f' : ℕ) (l' : Option (List ℕ)) (read : List ℕ) (
   pub too_long_after : (a : Answer) (s : Status) → Ends (whole_of a) (due_of a) s k k' t t' → Case c f f' l' read a → MOST_SOURCE < length read →
       EndsAs TooLong s k k' t t'
   too_long_after a s e (text m same end) h = absurd (omega (arith, m))
+  too_long_after a s e (trace m same end) h = absurd (omega (arith, m))
   too_long_after a s e (refused m same end line) h = absurd (omega (arith, m))
   too_long_after a s e (too_much m same end line) h = absurd (omega (arith, m))
   too_long_after a s e (fault m rose) h = absurd (omega (arith, m))
@@ -102,6 +111,7 @@ module _ (c : Command) (f f' : ℕ) (l' : Option (List ℕ)) (read : List ℕ) (
   -- a status of a whole text comes only where the source was read to its end
   pub end_after : (a : Answer) (s : Status) → Ends (whole_of a) (due_of a) s k k' t t' → Case c f f' l' read a → IsOfWholeText s → IsAtEnd l'
   end_after a s e (text m same end) h = end
+  end_after a s e (trace m same end) h = end
   end_after a s e (refused m same end line) h = end
   end_after a s e (too_much m same end line) h = end
   end_after a s (inl e) (fault m rose) h = absurd (subst IsOfWholeText e.0 h)
@@ -115,6 +125,7 @@ module _ (c : Command) (f f' : ℕ) (l' : Option (List ℕ)) (read : List ℕ) (
   pub sound_after : (a : Answer) (s : Status) → Ends (whole_of a) (due_of a) s k k' t t' → Case c f f' l' read a →
       (f' ≡ f) ⊎ EndsAs ReadFault s k k' t t'
   sound_after a s e (text m same end) = inl same
+  sound_after a s e (trace m same end) = inl same
   sound_after a s e (refused m same end line) = inl same
   sound_after a s e (too_much m same end line) = inl same
   sound_after a s e (fault m rose) = inr e
@@ -124,7 +135,9 @@ module _ (c : Command) (f f' : ℕ) (l' : Option (List ℕ)) (read : List ℕ) (
   -- a read fault comes only where the source's count rose
   pub fault_after : (a : Answer) (s : Status) → Ends (whole_of a) (due_of a) s k k' t t' → Case c f f' l' read a → s ≡ ReadFault → Rose f f'
   fault_after a s (inl e) (text m same end) h = cc
+  fault_after a s (inl e) (trace m same end) h = cc
   fault_after a s (inr e) (text m same end) h = cc
+  fault_after a s (inr e) (trace m same end) h = cc
   fault_after a s (inl e) (refused m same end line) h = cc
   fault_after a s (inr e) (refused m same end line) h = cc
   fault_after a s (inl e) (too_much m same end line) h = cc
@@ -139,7 +152,9 @@ module _ (c : Command) (f f' : ℕ) (l' : Option (List ℕ)) (read : List ℕ) (
   pub no_memory_after : (a : Answer) (s : Status) → Ends (whole_of a) (due_of a) s k k' t t' → Case c f f' l' read a → s ≡ NoMemory →
       EndsAs NoMemory s k k' t t'
   no_memory_after a s (inl e) (text m same end) h = cc
+  no_memory_after a s (inl e) (trace m same end) h = cc
   no_memory_after a s (inr e) (text m same end) h = cc
+  no_memory_after a s (inr e) (trace m same end) h = cc
   no_memory_after a s (inl e) (refused m same end line) h = cc
   no_memory_after a s (inr e) (refused m same end line) h = cc
   no_memory_after a s (inl e) (too_much m same end line) h = cc
@@ -155,6 +170,7 @@ module _ (c : Command) (f f' : ℕ) (l' : Option (List ℕ)) (read : List ℕ) (
       length read ≤ MOST_SOURCE → IsTextStatus s
   text_after a s (inr e) i source sink h = absurd (sink e.2)
   text_after a s (inl e) (text m same end) source sink h = subst IsTextStatus (sym e.0) tt
+  text_after a s (inl e) (trace m same end) source sink h = subst IsTextStatus (sym e.0) tt
   text_after a s (inl e) (refused m same end line) source sink h = subst IsTextStatus (sym e.0) tt
   text_after a s (inl e) (too_much m same end line) source sink h = subst IsTextStatus (sym e.0) tt
   text_after a s (inl e) (fault m rose) source sink h = absurd (source rose)
@@ -165,7 +181,9 @@ module _ (c : Command) (f f' : ℕ) (l' : Option (List ℕ)) (read : List ℕ) (
   pub line_after : (a : Answer) (s : Status) → Ends (whole_of a) (due_of a) s k k' t t' → Case c f f' l' read a → IsRefusal s →
       Appends t t' (line_of s)
   line_after a s (inl e) (text m same end) h = absurd (subst IsRefusal e.0 h)
+  line_after a s (inl e) (trace m same end) h = absurd (subst IsRefusal e.0 h)
   line_after a s (inr e) (text m same end) h = absurd (subst IsRefusal e.1 h)
+  line_after a s (inr e) (trace m same end) h = absurd (subst IsRefusal e.1 h)
   line_after a s (inl e) (refused m same end line) h = subst (λ due. Appends t t' due) (line ∙ sym (ap line_of e.0)) e.2
   line_after a s (inr e) (refused m same end line) h = absurd (subst IsRefusal e.1 h)
   line_after a s (inl e) (too_much m same end line) h = subst (λ due. Appends t t' due) (line ∙ sym (ap line_of e.0)) e.2
@@ -223,6 +241,7 @@ sink_sound whole due s k k' t t' (inr e) = inl (subst IsCut (sym e.1) (is_cut wh
 never_cut_after : (c : Command) (a : Answer) (f f' : ℕ) (l' : Option (List ℕ)) (bytes : List ℕ) → Case c f f' l' bytes a → (written : ℕ) →
     whole_of a ≡ WriteFault written → ⊥
 never_cut_after c a f f' l' bytes (text m same end) written h = cc
+never_cut_after c a f f' l' bytes (trace m same end) written h = cc
 never_cut_after c a f f' l' bytes (refused m same end line) written h = cc
 never_cut_after c a f f' l' bytes (too_much m same end line) written h = cc
 never_cut_after c a f f' l' bytes (fault m rose) written h = cc
@@ -245,15 +264,17 @@ module _ (w : Option Command) (a : Answer) (s : Status) (f f' : ℕ) (l l' : Opt
       let r = read_answer w a f f' l l' reads i in each r.0 r.1.0 (case_of r.0 a f f' l' r.1.0 r.1.2)
 
   -- so many bytes of what was due were written before the sink failed
-  abbrev CutAt : ℕ → Type 0
-  CutAt written =
-      Rose k k' × (answer : Answer) × IsAnswer w answer f f' l l' × (written < length (due_of answer)) × Appends t t' (take written (due_of answer))
+  abbrev CutAt : Option (Record Label) → ℕ → Type 0
+  CutAt ran written =
+      Rose k k' × (answer : Answer) × IsAnswer w answer f f' l l' × (ran ≡ ran_of answer) × (written < length (due_of answer))
+      × Appends t t' (take written (due_of answer))
 
   -- a write fault tells what was due, and how much of it was written
-  pub write_fault : IfWriteFault s CutAt
-  write_fault = elim e [
-    | inl e ↦ subst (λ s. IfWriteFault s CutAt) (sym e.0) (not_cut (whole_of a) CutAt (never_cut w a f f' l l' (answered w a f f' l l' i)))
-    | inr e ↦ subst (λ s. IfWriteFault s CutAt) (sym e.1) (cut (whole_of a) e.0 CutAt (e.2, a, i, e.3, e.4))
+  pub write_fault : (ran : Option (Record Label)) → ran ≡ ran_of a → IfWriteFault s (CutAt ran)
+  write_fault ran kept = elim e [
+    | inl e ↦ subst (λ s. IfWriteFault s (CutAt ran)) (sym e.0)
+        (not_cut (whole_of a) (CutAt ran) (never_cut w a f f' l l' (answered w a f f' l l' i)))
+    | inr e ↦ subst (λ s. IfWriteFault s (CutAt ran)) (sym e.1) (cut (whole_of a) e.0 (CutAt ran) (e.2, a, i, kept, e.3, e.4))
   ]
 
   -- too long exactly where more bytes were read than a source may have

@@ -9,22 +9,25 @@ use Rattle.abc_term.specs.declared.terms.Program.{Program}
 use Rattle.abc_grammar.specs.Accepted.{IsAccepted, IsRefused}
 use Rattle.abc_grammar.specs.TextLaws.{AreAlike}
 use Rattle.abc_grammar.proofs.OneText.{texts_are_one}
+use Rattle.abc_moves.specs.declared.label.Label.{Label}
+use Rattle.abc_net.specs.declared.record.Record.{Record}
 use Rattle.abc_runner.specs.declared.command.Command.{Command}
-use Rattle.abc_runner.specs.declared.command.Command.TheVariants.{Solo, Print, Other}
+use Rattle.abc_runner.specs.declared.command.Command.TheVariants.{Solo, Net, Print, Other}
 use Rattle.abc_runner.specs.declared.status.Status.{Status}
 use Rattle.abc_runner.specs.declared.status.Status.TheVariants.{Done, BadWords, Unbuilt, TooMuch, TooLong, Refused, ReadFault, WriteFault, NoMemory}
 use Rattle.abc_runner.specs.declared.answer.Answer.{Answer}
-use Rattle.abc_runner.specs.declared.answer.Answer.TheVariants.{Text, Refusal, Line}
+use Rattle.abc_runner.specs.declared.answer.Answer.TheVariants.{Text, Trace, Refusal, Line}
 use Rattle.abc_runner.specs.declared.limits.TheConstants.{MOST_SOURCE, MOST_PRODUCT}
 use Rattle.abc_runner.specs.Statuses.{line_of}
-use Rattle.abc_runner.specs.Answers.{IsTooMuch, Prints, IsOfText, IsAfter, IsReadAnswer}
-use Rattle.abc_runner.specs.Laws.{OneOfText, OneAnswer}
-use Rattle.abc_runner.proofs.AlikePrograms.{same_count, same_print, one_solo}
+use Rattle.abc_runner.specs.Answers.{IsTooMuch, Prints, IsTraceOf, IsOfText, IsAfter, IsReadAnswer}
+use Rattle.abc_runner.specs.Laws.{AreOne, OneOfText, OneAnswer}
+use Rattle.abc_runner.proofs.AlikePrograms.{same_count, same_print, one_solo, one_record}
 
 -- ---- of a text
 -- What an answer to a text can be, with what each gives.
 data Said (c : Command) (bytes : List ℕ) : Answer → Type 0 where
   text : {t : List ℕ} (ts : List Token) (p : Program) → IsAccepted bytes ts p → Prints c p t → Said c bytes (Text t)
+  trace : {t : List ℕ} {r : Record Label} (ts : List Token) (p : Program) → IsAccepted bytes ts p → IsTraceOf c p t r → Said c bytes (Trace t r)
   refused :
       {place : ℕ} {cause : Cause} {line : List ℕ} → IsRefused bytes place cause → line ≡ line_of (Refused place cause) →
       Said c bytes (Line (Refused place cause) line)
@@ -35,6 +38,7 @@ data Said (c : Command) (bytes : List ℕ) : Answer → Type 0 where
 
 said_of : (c : Command) (bytes : List ℕ) (a : Answer) → IsOfText c bytes a → Said c bytes a
 said_of c bytes (Text t) h = text h.0 h.1 h.2 h.3
+said_of c bytes (Trace t r) h = trace h.0 h.1 h.2 h.3
 said_of c bytes (Refusal Done) h = absurd h
 said_of c bytes (Refusal BadWords) h = absurd h
 said_of c bytes (Refusal Unbuilt) h = absurd h
@@ -57,12 +61,28 @@ said_of c bytes (Line NoMemory line) h = absurd h.0
 -- alike programs print the same for a command
 one_print : (c : Command) (p q : Program) (t u : List ℕ) → AreAlike p q → Prints c p t → Prints c q u → t ≡ u
 one_print (Solo limit pick) p q t u a h k = one_solo p q a limit pick t u h.1 k.1
+one_print (Net shape limit nodes workers pick) p q t u a h k = absurd h
 one_print Print p q t u a h k = h ∙ same_print p q a ∙ sym k
 one_print Other p q t u a h k = absurd h
+
+-- a record of alike programs has one trace for a command
+one_trace : (c : Command) (p q : Program) (t u : List ℕ) (r s : Record Label) → AreAlike p q → IsTraceOf c p t r → IsTraceOf c q u s → r ≡ s → t ≡ u
+one_trace (Solo limit pick) p q t u r s a h k e = absurd h
+one_trace (Net shape limit nodes workers pick) p q t u r s a h k e = one_record p q a r s t u e h.2 k.2
+one_trace Print p q t u r s a h k e = absurd h
+one_trace Other p q t u r s a h k e = absurd h
+
+-- what is printed without a record isn't printed with one
+never_mixed : (c : Command) (p q : Program) (t u : List ℕ) (r : Record Label) → Prints c p t → IsTraceOf c q u r → ⊥
+never_mixed (Solo limit pick) p q t u r h k = k
+never_mixed (Net shape limit nodes workers pick) p q t u r h k = h
+never_mixed Print p q t u r h k = k
+never_mixed Other p q t u r h k = k
 
 -- the run is too much for the one with the same numbers as for the other
 one_bound : (c : Command) (p q : Program) (m n m' n' : ℕ) → AreAlike p q → IsTooMuch c p m n → IsTooMuch c q m' n' → (m ≡ m') × (n ≡ n')
 one_bound (Solo limit pick) p q m n m' n' a h k = (h.0 ∙ sym k.0, h.1 ∙ same_count p q a ∙ sym k.1)
+one_bound (Net shape limit nodes workers pick) p q m n m' n' a h k = (h.0 ∙ sym k.0, h.1 ∙ same_count p q a ∙ sym k.1)
 one_bound Print p q m n m' n' a h k = absurd h
 one_bound Other p q m n m' n' a h k = absurd h
 
@@ -71,17 +91,37 @@ never_both : (c : Command) (p q : Program) (m n : ℕ) (t : List ℕ) → AreAli
 never_both (Solo limit pick) p q m n t a h k =
     let more : MOST_PRODUCT < limit * length q.components = subst (λ (n : ℕ). MOST_PRODUCT < limit * n) (same_count p q a) h.2 in
     let most = k.0 in omega (arith, more, most)
+never_both (Net shape limit nodes workers pick) p q m n t a h k = k
 never_both Print p q m n t a h k = h
 never_both Other p q m n t a h k = h
+
+-- nor does it run as a network
+never_ran : (c : Command) (p q : Program) (m n : ℕ) (t : List ℕ) (r : Record Label) → AreAlike p q → IsTooMuch c p m n → IsTraceOf c q t r → ⊥
+never_ran (Solo limit pick) p q m n t r a h k = k
+never_ran (Net shape limit nodes workers pick) p q m n t r a h k =
+    let more : MOST_PRODUCT < limit * length q.components = subst (λ (n : ℕ). MOST_PRODUCT < limit * n) (same_count p q a) h.2 in
+    let most = k.0 in omega (arith, more, most)
+never_ran Print p q m n t r a h k = h
+never_ran Other p q m n t r a h k = h
 
 -- a line, which its status fixes
 same_line : (s s' : Status) (l l' : List ℕ) → s ≡ s' → l ≡ line_of s → l' ≡ line_of s' → Line s l ≡ Line s' l'
 same_line s s' l l' same e f = ap (λ (m : List ℕ). Line s m) e ∙ ap (λ (r : Status). Line r (line_of r)) same ∙ ap (λ (m : List ℕ). Line s' m) (sym f)
 
 -- two answers to one text
-one_said : (c : Command) (bytes : List ℕ) (a b : Answer) → Said c bytes a → Said c bytes b → a ≢ Refusal NoMemory → b ≢ Refusal NoMemory → a ≡ b
+one_said : (c : Command) (bytes : List ℕ) (a b : Answer) → Said c bytes a → Said c bytes b → a ≢ Refusal NoMemory → b ≢ Refusal NoMemory → AreOne a b
 one_said c bytes a b (text ts p h t) (text us q k u) x y =
     ap Text (one_print c p q _ _ (texts_are_one.accepted bytes ts us p q h k).1 t u)
+one_said c bytes a b (text ts p h t) (trace us q k u) x y = absurd (never_mixed c p q _ _ _ t u)
+one_said c bytes a b (trace ts p h t) (text us q k u) x y = absurd (never_mixed c q p _ _ _ u t)
+one_said c bytes a b (trace ts p h t) (trace us q k u) x y =
+    λ e. one_trace c p q _ _ _ _ (texts_are_one.accepted bytes ts us p q h k).1 t u e
+one_said c bytes a b (trace ts p h t) (refused k e) x y = absurd (texts_are_one.apart bytes ts p _ _ h k)
+one_said c bytes a b (trace ts p h t) (too_much us q k u e) x y =
+    absurd (never_ran c q p _ _ _ _ (texts_are_one.accepted bytes us ts q p k h).1 u t)
+one_said c bytes a b (refused h e) (trace us q k u) x y = absurd (texts_are_one.apart bytes us q _ _ k h)
+one_said c bytes a b (too_much ts p h t e) (trace us q k u) x y =
+    absurd (never_ran c p q _ _ _ _ (texts_are_one.accepted bytes ts us p q h k).1 t u)
 one_said c bytes a b (text ts p h t) (refused k e) x y = absurd (texts_are_one.apart bytes ts p _ _ h k)
 one_said c bytes a b (text ts p h t) (too_much us q k u e) x y =
     absurd (never_both c q p _ _ _ (texts_are_one.accepted bytes us ts q p k h).1 u t)
@@ -100,6 +140,12 @@ one_said c bytes a b s memory x y = absurd (y refl)
 
 pub one_of_text : OneOfText
 one_of_text c bytes a b h k x y = one_said c bytes a b (said_of c bytes a h) (said_of c bytes b k) x y
+
+-- two answers that are one refusal
+one_refusal : (s : Status) (a b : Answer) → a ≡ Refusal s → b ≡ Refusal s → AreOne a b
+one_refusal s a b e f =
+    let same : AreOne (Refusal s) (Refusal s) = refl in
+    subst (λ (x : Answer). AreOne x b) (sym e) (subst (λ (y : Answer). AreOne (Refusal s) y) (sym f) same)
 
 -- ---- of words and a source
 -- The answer after a source told its bytes and didn't fail: it is that of the bytes, which are no more than a source may have,
@@ -124,6 +170,9 @@ after_all : (c : Command) (a : Answer) (f f' : ℕ) (bytes read : List ℕ) (lef
 after_all c (Text t) f f' bytes read left sound told i x =
     let all = all_read bytes read left told i.2 in
     whole (subst (λ (xs : List ℕ). length xs ≤ MOST_SOURCE) (sym all) i.0) (subst (λ (xs : List ℕ). IsOfText c xs (Text t)) (sym all) i.3)
+after_all c (Trace t r) f f' bytes read left sound told i x =
+    let all = all_read bytes read left told i.2 in
+    whole (subst (λ (xs : List ℕ). length xs ≤ MOST_SOURCE) (sym all) i.0) (subst (λ (xs : List ℕ). IsOfText c xs (Trace t r)) (sym all) i.3)
 after_all c (Refusal Done) f f' bytes read left sound told i x = absurd i
 after_all c (Refusal BadWords) f f' bytes read left sound told i x = absurd i
 after_all c (Refusal Unbuilt) f f' bytes read left sound told i x = absurd i
@@ -140,21 +189,23 @@ after_all c (Line status line) f f' bytes read left sound told i x =
     (subst (λ (xs : List ℕ). IsOfText c xs (Line status line)) (sym all) i.3)
 
 one_after : (c : Command) (bytes : List ℕ) (a b : Answer) → AfterAll c bytes a → AfterAll c bytes b → a ≢ Refusal NoMemory → b ≢ Refusal NoMemory →
-    a ≡ b
+    AreOne a b
 one_after c bytes a b (whole m h) (whole n k) x y = one_of_text c bytes a b h k x y
 one_after c bytes a b (whole m h) (long n e) x y = absurd (omega (arith, m, n))
 one_after c bytes a b (long m e) (whole n k) x y = absurd (omega (arith, m, n))
-one_after c bytes a b (long m e) (long n f) x y = e ∙ sym f
+one_after c bytes a b (long m e) (long n f) x y = one_refusal TooLong a b e f
 
 one_read : (c : Command) (bytes : List ℕ) (a b : Answer) (f f' g g' : ℕ) (left left' : Option (List ℕ)) → ¬ Rose f f' → ¬ Rose g g' →
     IsReadAnswer c a f f' (Some bytes) left → IsReadAnswer c b g g' (Some bytes) left' →
-    a ≢ Refusal NoMemory → b ≢ Refusal NoMemory → a ≡ b
+    a ≢ Refusal NoMemory → b ≢ Refusal NoMemory → AreOne a b
 one_read c bytes a b f f' g g' left left' sound other h k x y =
     one_after c bytes a b (after_all c a f f' bytes h.0 left sound h.1 h.2 x) (after_all c b g g' bytes k.0 left' other k.1 k.2 y) x y
 
 pub one_answer : OneAnswer
-one_answer None bytes a b f f' g g' left left' sound other h k x y = h.0 ∙ sym k.0
+one_answer None bytes a b f f' g g' left left' sound other h k x y = one_refusal BadWords a b h.0 k.0
 one_answer (Some (Solo limit pick)) bytes a b f f' g g' left left' sound other h k x y =
     one_read (Solo limit pick) bytes a b f f' g g' left left' sound other h k x y
+one_answer (Some (Net shape limit nodes workers pick)) bytes a b f f' g g' left left' sound other h k x y =
+    one_read (Net shape limit nodes workers pick) bytes a b f f' g g' left left' sound other h k x y
 one_answer (Some Print) bytes a b f f' g g' left left' sound other h k x y = one_read Print bytes a b f f' g g' left left' sound other h k x y
-one_answer (Some Other) bytes a b f f' g g' left left' sound other h k x y = h.0 ∙ sym k.0
+one_answer (Some Other) bytes a b f f' g g' left left' sound other h k x y = one_refusal Unbuilt a b h.0 k.0

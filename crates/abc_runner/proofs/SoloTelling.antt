@@ -7,12 +7,14 @@ use Rattle.abc_term.specs.Standing.{definitions_of, system_of}
 use Rattle.abc_term.specs.Systems.{IsSilent}
 use Rattle.abc_steps.specs.Rows.{choice_of_row}
 use Rattle.abc_steps.proofs.OneRun.{turns_end, turns_are_determined}
+use Rattle.abc_moves.specs.declared.label.Label.{Label}
+use Rattle.abc_net.specs.declared.record.Record.{Record}
 use Rattle.abc_runner.specs.declared.command.Command.{Command}
 use Rattle.abc_runner.specs.declared.command.Command.TheVariants.{Solo}
 use Rattle.abc_runner.specs.declared.status.Status.{Status}
 use Rattle.abc_runner.specs.declared.status.Status.TheVariants.{Done, BadWords, Unbuilt, TooMuch, TooLong, Refused, ReadFault, WriteFault, NoMemory}
 use Rattle.abc_runner.specs.declared.answer.Answer.{Answer}
-use Rattle.abc_runner.specs.declared.answer.Answer.TheVariants.{Text, Refusal, Line}
+use Rattle.abc_runner.specs.declared.answer.Answer.TheVariants.{Text, Trace, Refusal, Line}
 use Rattle.abc_runner.specs.Answers.{whole_of, due_of, IsOfText, IsAfter, IsAnswer}
 use Rattle.abc_runner.specs.Outcomes.{cut_short}
 use Rattle.abc_runner.specs.Laws.{TellsSoloRun, SoloTells, DoneTells}
@@ -47,7 +49,7 @@ solo_tells limit pick text faults faults' left left' i = (i.2.2, (i.0, i.1, tell
 
 -- ---- where the status is Done
 -- no write fault
-never_cut : (whole : Status) (written : ℕ) → Done ≡ cut_short whole written → ⊥
+pub never_cut : (whole : Status) (written : ℕ) → Done ≡ cut_short whole written → ⊥
 never_cut Done written e = cc
 never_cut BadWords written e = cc
 never_cut Unbuilt written e = cc
@@ -58,13 +60,15 @@ never_cut ReadFault written e = cc
 never_cut (WriteFault other) written e = cc
 never_cut NoMemory written e = cc
 
--- the answer is a text
-data IsText : Answer → Type 0 where
+-- the answer is a text, or the trace of what ran
+pub data IsText : Answer → Type 0 where
   text : (t : List ℕ) → IsText (Text t)
+  trace : (t : List ℕ) (r : Record Label) → IsText (Trace t r)
 
-text_of_done : (c : Command) (a : Answer) (f f' : ℕ) (left : Option (List ℕ)) (read : List ℕ) → IsAfter c a f f' left read →
+pub text_of_done : (c : Command) (a : Answer) (f f' : ℕ) (left : Option (List ℕ)) (read : List ℕ) → IsAfter c a f f' left read →
     Done ≡ whole_of a → IsText a
 text_of_done c (Text t) f f' left read i e = text t
+text_of_done c (Trace t r) f f' left read i e = trace t r
 text_of_done c (Refusal Done) f f' left read i e = absurd i
 text_of_done c (Refusal BadWords) f f' left read i e = absurd i
 text_of_done c (Refusal Unbuilt) f f' left read i e = absurd i
@@ -89,6 +93,7 @@ done_with : (limit pick : ℕ) (a : Answer) (f f' : ℕ) (left left' told told' 
     IsAtEnd left' × HasRead left left' (λ bytes. (text : List ℕ) × Appends told told' text × TellsSoloRun limit pick bytes text)
 done_with limit pick a f f' left left' told told' (text t) i w =
     let tells = solo_tells limit pick t f f' left left' i in (tells.0, (tells.1.0, tells.1.1, (t, w, tells.1.2)))
+done_with limit pick a f f' left left' told told' (trace t r) i w = absurd i.2.3.3
 
 pub done_tells : DoneTells
 done_tells limit pick a f f' left left' k k' told told' i e =

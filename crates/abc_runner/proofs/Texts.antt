@@ -11,7 +11,7 @@ use Rattle.abc_checks.specs.Facts.{IsChecked}
 use Rattle.abc_runner.specs.declared.command.Command.{Command}
 use Rattle.abc_runner.specs.declared.status.Status.TheVariants.{Done, BadWords, Unbuilt, TooMuch, TooLong, Refused, ReadFault, WriteFault, NoMemory}
 use Rattle.abc_runner.specs.declared.answer.Answer.{Answer}
-use Rattle.abc_runner.specs.declared.answer.Answer.TheVariants.{Text, Refusal, Line}
+use Rattle.abc_runner.specs.declared.answer.Answer.TheVariants.{Text, Trace, Refusal, Line}
 use Rattle.abc_runner.specs.declared.limits.TheConstants.{MOST_SOURCE}
 use Rattle.abc_runner.specs.Answers.{IsOfText, IsAfter}
 
@@ -20,10 +20,10 @@ use Rattle.abc_runner.specs.Answers.{IsOfText, IsAfter}
 pub few_components : (p : Program) → IsChecked p → length p.components ≤ 256
 few_components p checked = let few : 256 < length p.components → ⊥ = checked TooManyComponents Whole in omega (arith, few)
 
--- so a limit times their number is far from the end of its type
-pub product_fits : (limit components : ℕ) → limit < 2 ^ 32 → components ≤ 256 → limit * components < 2 ^ 64
+-- the product of two numbers of 32 bits fits 64
+pub product_fits : (limit components : ℕ) → limit < 2 ^ 32 → components < 2 ^ 32 → limit * components < 2 ^ 64
 product_fits limit components small few =
-    let most : limit * components ≤ limit * 256 = mul-le-mul_left limit few in omega (arith, small, most)
+    let most : limit * components ≤ limit * 4294967295 = mul-le-mul_left limit (omega (arith, few)) in omega (arith, small, most)
 
 -- ---- of a source
 -- what was read to the end of a source is what it told
@@ -38,6 +38,7 @@ pub after_text : (c : Command) (a : Answer) (f f' : ℕ) (left : Option (List �
     IsAtEnd left →
     IsOfText c bytes a → IsAfter c a f f' left bytes
 after_text c (Text t) f f' left bytes most same end h = (most, same, end, h)
+after_text c (Trace t ran) f f' left bytes most same end h = (most, same, end, h)
 after_text c (Refusal Done) f f' left bytes most same end h = absurd h
 after_text c (Refusal BadWords) f f' left bytes most same end h = absurd h
 after_text c (Refusal Unbuilt) f f' left bytes most same end h = absurd h

@@ -17,19 +17,24 @@ use Rattle.abc_runner.specs.declared.command.Command.{Command}
 use Rattle.abc_runner.specs.declared.command.Command.TheVariants.{Solo}
 use Rattle.abc_runner.specs.declared.status.Status.TheVariants.{Done, NoMemory}
 use Rattle.abc_runner.specs.declared.answer.Answer.{Answer}
-use Rattle.abc_runner.specs.declared.answer.Answer.TheVariants.{Text, Refusal}
+use Rattle.abc_runner.specs.declared.answer.Answer.TheVariants.{Text, Trace, Refusal}
 use Rattle.abc_runner.specs.declared.limits.TheConstants.{MOST_PRODUCT}
 use Rattle.abc_runner.specs.Answers.{whole_of, due_of, IsOfText, IsAnswer}
 use Rattle.abc_runner.specs.Outcomes.{Ends}
 
 -- ---- one answer
+-- Two answers are one: they are equal, and two traces of what ran are where the same ran.
+abbrev pub AreOne : Answer → Answer → Type 0
+AreOne (Trace text ran) (Trace text' ran') = ran ≡ ran' → text ≡ text'
+AreOne a b = a ≡ b
+
 -- Want of memory aside, there is at most one answer to a command and a text: its status, its line
--- and its text.
+-- and its text. For a network each record that its run can leave has one.
 abbrev pub OneOfText : Type 0
 OneOfText =
     (command : Command) (bytes : List ℕ) (a b : Answer) →
     IsOfText command bytes a → IsOfText command bytes b →
-    a ≢ Refusal NoMemory → b ≢ Refusal NoMemory → a ≡ b
+    a ≢ Refusal NoMemory → b ≢ Refusal NoMemory → AreOne a b
 
 -- So there is to words and a source that told the same bytes in two calls, if it failed in neither
 -- of them.
@@ -40,7 +45,7 @@ OneAnswer =
     ¬ Rose faults faults' → ¬ Rose others others' →
     IsAnswer words a faults faults' (Some bytes) left →
     IsAnswer words b others others' (Some bytes) left' →
-    a ≢ Refusal NoMemory → b ≢ Refusal NoMemory → a ≡ b
+    a ≢ Refusal NoMemory → b ≢ Refusal NoMemory → AreOne a b
 
 -- ---- what `solo` tells
 -- The bytes are accepted as a program, and the text is the trace of a run of the calculus from its

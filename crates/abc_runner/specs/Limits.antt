@@ -1,7 +1,8 @@
 -- The limits of a call: what is just within each, and what is just past it.
 use Rattle.std.specs.Prelude.{◌≡◌, [], ◌∷◌, List, Option, Some, None, codes}
+use Rattle.abc_shape.specs.declared.shape.Shape.TheVariants.{Cluster, Ring, Tree}
 use Rattle.abc_runner.specs.declared.command.Command.{Command}
-use Rattle.abc_runner.specs.declared.command.Command.TheVariants.{Solo, Print, Other}
+use Rattle.abc_runner.specs.declared.command.Command.TheVariants.{Solo, Net, Print, Other}
 use Rattle.abc_runner.specs.declared.limits.TheConstants.{MOST_SOURCE, MOST_PRODUCT}
 use Rattle.abc_runner.specs.Commands.{Word, command_of}
 
@@ -12,6 +13,12 @@ solo limit pick = command_of (codes "solo" ∷ limit ∷ pick ∷ [])
 -- the word `print` with more words behind it
 abbrev pub print : List Word → Option Command
 print more = command_of (codes "print" ∷ more)
+
+-- the words `run SHAPE 10 7 4 0`
+abbrev pub run_shape : Word → Option Command
+run_shape shape =
+    command_of
+    (codes "run" ∷ shape ∷ codes "10" ∷ codes "7" ∷ codes "4" ∷ codes "0" ∷ [])
 
 -- the words `run ring LIMIT NODES WORKERS PICK`
 abbrev pub run : Word → Word → Word → Word → Option Command
@@ -35,9 +42,14 @@ pub record LimitsOfCommands : Type 0 where
   pub print_as_solo : print (codes "1" ∷ codes "0" ∷ []) ≡ None
   pub print_written_large : command_of (codes "Print" ∷ []) ≡ None
   pub no_word : command_of [] ≡ None
-  pub least_run : run (codes "1") (codes "1") (codes "1") (codes "0") ≡ Some Other
+  pub least_run : run (codes "1") (codes "1") (codes "1") (codes "0") ≡ Some (Net Ring 1 1 1 0)
   pub greatest_run :
-      run (codes "100000") (codes "64") (codes "16") (codes "4294967295") ≡ Some Other
+      run (codes "100000") (codes "64") (codes "16") (codes "4294967295")
+      ≡ Some (Net Ring 100000 64 16 4294967295)
+  pub run_cluster : run_shape (codes "cluster") ≡ Some (Net Cluster 10 7 4 0)
+  pub run_ring : run_shape (codes "ring") ≡ Some (Net Ring 10 7 4 0)
+  pub run_tree : run_shape (codes "tree") ≡ Some (Net Tree 10 7 4 0)
+  pub run_star : run_shape (codes "star") ≡ None
   pub run_limit_0 : run (codes "0") (codes "1") (codes "1") (codes "0") ≡ None
   pub run_limit_more : run (codes "100001") (codes "1") (codes "1") (codes "0") ≡ None
   pub run_nodes_0 : run (codes "1") (codes "0") (codes "1") (codes "0") ≡ None

@@ -3,7 +3,7 @@ use Rattle.std.specs.Prelude.{ℕ, ◌≡◌, ◌<◌, ◌⊎◌, List, length, 
 use Rattle.std.specs.Io.KnownBytes.{Appends}
 use Rattle.abc_io.specs.Devices.{Rose}
 use Rattle.abc_runner.specs.declared.command.Command.{Command}
-use Rattle.abc_runner.specs.declared.command.Command.TheVariants.{Solo, Print}
+use Rattle.abc_runner.specs.declared.command.Command.TheVariants.{Solo, Net, Print}
 use Rattle.abc_runner.specs.declared.status.Status.{Status}
 use Rattle.abc_runner.specs.declared.status.Status.TheVariants.{Done, BadWords, Unbuilt, TooMuch, TooLong, Refused, ReadFault, WriteFault, NoMemory}
 use Rattle.abc_runner.specs.Statuses.{line_of}
@@ -57,6 +57,12 @@ IsCut (WriteFault written) = ⊤
 IsCut NoMemory = ⊤
 IsCut _ = ⊥
 
+-- the statuses of a call that has run a network
+abbrev pub IsAfterRun : Status → Type 0
+IsAfterRun Done = ⊤
+IsAfterRun (WriteFault written) = ⊤
+IsAfterRun _ = ⊥
+
 -- a fact of the bytes that were written before a write fault
 abbrev pub IfWriteFault : Status → (ℕ → Type 0) → Type 0
 IfWriteFault (WriteFault written) P = P written
@@ -65,5 +71,6 @@ IfWriteFault _ P = ⊤
 -- a command that reads the source
 abbrev pub ReadsText : Option Command → Type 0
 ReadsText (Some (Solo limit pick)) = ⊤
+ReadsText (Some (Net shape limit nodes workers pick)) = ⊤
 ReadsText (Some Print) = ⊤
 ReadsText _ = ⊥

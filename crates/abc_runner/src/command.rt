@@ -2,16 +2,29 @@ ghost use Rattle.std.specs.Prelude.{◌≡◌, ◌<◌, ◌≤◌, ◌^◌, true
 ghost use Rattle.std.specs.List.{list_all};
 ghost use Rattle.std.specs.Char.{is_ascii_digit};
 ghost use Rattle.std.specs.Str.Parse.{digits_value};
-ghost use Rattle.abc_runner.specs.Commands.{command_in, is_name, is_plain, leads_with_zero, number_of, is_number, is_shape, other_where, print_row, solo_row};
+ghost use Rattle.abc_runner.specs.Commands.{command_in, is_name, is_plain, leads_with_zero, number_of, is_number, is_shape, shape_of, other_where, print_row, run_row, solo_row, IsWithin};
 
 use crate::limits::{LEAST_SIZE, MOST_NUMBER, MOST_SIZE, MOST_WORKERS};
+use abc_shape::Shape;
 use abc_trace::{MOST_LIMIT, MOST_NODES, MOST_PICK};
 
 /// What the words after the program's name ask for.
 #[derive(Clone, Copy, Debug, PartialEq, Eq)]
 pub enum Command {
     /// The run by the calculus alone, of at most `limit` numbers; `pick` chooses among the moves.
-    Solo { limit: u32, pick: u64 },
+    Solo {
+        limit: u32,
+        pick: u64,
+    },
+    /// The run as a network of this shape with `nodes` nodes, of at most `limit` numbers. It is made
+    /// on one thread, whatever the number of workers.
+    Net {
+        shape: Shape,
+        limit: u32,
+        nodes: u32,
+        workers: u32,
+        pick: u64,
+    },
     /// The canonical text.
     Print,
     /// Another row of the table of commands.
@@ -21,7 +34,8 @@ pub enum Command {
 impl Command {
     /// The command of a list of words, by the table of commands; `None` exactly for all other lists.
     pub fn read(words: &[String]) -> Option<Command>
-        ensures { result ≡ command_in words.now }
+        ensures value { result ≡ command_in words.now }
+        ensures within { IfSome result IsWithin }
     {
         match words {
             [name] => print(name.as_str()),
@@ -32,13 +46,13 @@ impl Command {
                     && is_number(size.as_str(), LEAST_SIZE, MOST_SIZE)
                     && is_shape(shape.as_str()),
             ),
-            [name, shape, limit, nodes, workers, pick] => other(
-                is_name(name.as_str(), "run")
-                    && is_shape(shape.as_str())
-                    && is_number(limit.as_str(), 1, MOST_LIMIT)
-                    && is_number(nodes.as_str(), 1, MOST_NODES)
-                    && is_number(workers.as_str(), 1, MOST_WORKERS)
-                    && is_number(pick.as_str(), 0, MOST_PICK),
+            [name, shape, limit, nodes, workers, pick] => network(
+                name.as_str(),
+                shape.as_str(),
+                limit.as_str(),
+                nodes.as_str(),
+                workers.as_str(),
+                pick.as_str(),
             ),
             _ => None,
         }
@@ -46,7 +60,8 @@ impl Command {
 }
 
 fn print(name: &str) -> Option<Command>
-    ensures { result ≡ print_row name.now }
+    ensures value { result ≡ print_row name.now }
+    ensures within { IfSome result IsWithin }
 {
     if is_name(name, "print") {
         Some(Command::Print)
@@ -56,13 +71,15 @@ fn print(name: &str) -> Option<Command>
 }
 
 fn other(holds: bool) -> Option<Command>
-    ensures { result ≡ other_where holds }
+    ensures value { result ≡ other_where holds }
+    ensures within { IfSome result IsWithin }
 {
     if holds { Some(Command::Other) } else { None }
 }
 
 fn solo(name: &str, limit: &str, pick: &str) -> Option<Command>
-    ensures { result ≡ solo_row name.now limit.now pick.now }
+    ensures value { result ≡ solo_row name.now limit.now pick.now }
+    ensures within { IfSome result IsWithin }
 {
     if !is_name(name, "solo") {
         return None;
@@ -76,16 +93,60 @@ fn solo(name: &str, limit: &str, pick: &str) -> Option<Command>
     }
 }
 
+fn network(
+    name: &str,
+    shape: &str,
+    limit: &str,
+    nodes: &str,
+    workers: &str,
+    pick: &str,
+) -> Option<Command>
+    ensures value { result
+        ≡ run_row name.now shape.now limit.now nodes.now workers.now pick.now }
+    ensures within { IfSome result IsWithin }
+{
+    if !is_name(name, "run") {
+        return None;
+    }
+    let shape = shape_in(shape)?;
+    let limit = number(limit, 1, MOST_LIMIT)?;
+    let nodes = number(nodes, 1, MOST_NODES)?;
+    let workers = number(workers, 1, MOST_WORKERS)?;
+    let pick = number(pick, 0, MOST_PICK)?;
+    Some(Command::Net {
+        shape,
+        limit: limit as u32,
+        nodes: nodes as u32,
+        workers: workers as u32,
+        pick,
+    })
+}
+
 fn is_name(word: &str, name: &str) -> bool
     ensures { result ≡ is_name name.now word.now }
 {
     word == name
 }
 
+/// The shape that a word names.
+fn shape_in(word: &str) -> Option<Shape>
+    ensures { result ≡ shape_of word.now }
+{
+    if is_name(word, "cluster") {
+        Some(Shape::Cluster)
+    } else if is_name(word, "ring") {
+        Some(Shape::Ring)
+    } else if is_name(word, "tree") {
+        Some(Shape::Tree)
+    } else {
+        None
+    }
+}
+
 fn is_shape(word: &str) -> bool
     ensures { result ≡ is_shape word.now }
 {
-    is_name(word, "cluster") || is_name(word, "ring") || is_name(word, "tree")
+    shape_in(word).is_some()
 }
 
 fn is_number(word: &str, low: u64, high: u64) -> bool

@@ -8,7 +8,8 @@ pub fn limits_of_commands()
 {}
 
 /// To a command and a text there is one answer, want of memory aside: its status and what is due to the
-/// sink. So there is to words and a source that tells its bytes and does not fail.
+/// sink. So there is to words and a source that tells its bytes and does not fail. For a network there
+/// is one to each record.
 pub fn answers_are_one()
     ensures texts { OneOfText }
     ensures answers { OneAnswer }

@@ -1,18 +1,19 @@
 //! What a command prints of a text, or why it is refused.
-ghost use Rattle.std.specs.Prelude.{◌≡◌, ◌≤◌, ◌<◌, ◌*◌, ◌^◌, length, IfOk};
+ghost use Rattle.std.specs.Prelude.{◌≡◌, ◌<◌, ◌^◌, length};
 ghost use Rattle.abc_checks.specs.Facts.{IsChecked};
-ghost use Rattle.abc_grammar.specs.Accepted.{IsRefused};
 ghost use Rattle.abc_printed.specs.Printed.{program_text};
 ghost use Rattle.abc_run_text.specs.SoloTexts.{IsSoloText};
 ghost use Rattle.abc_runner.specs.declared.command.Command.TheVariants as command;
 ghost use Rattle.abc_runner.specs.declared.status.Status.TheVariants as status;
+ghost use Rattle.abc_runner.specs.Commands.{IsWithin};
 ghost use Rattle.abc_runner.specs.Answers.{IsLineOf, IsOfProgram, IsOfText, IsTextSuch};
 ghost use Rattle.abc_runner.specs.Outcomes.{ReadsText};
 
 use crate::answer::Answer;
+use crate::bound::{components_of, is_too_much, too_much};
 use crate::command::Command;
-use crate::limits::MOST_PRODUCT;
-use crate::status::{Status, refused_line, too_much_line};
+use crate::network::network_answer;
+use crate::status::{Status, refused_line};
 use abc_parse::{Cause, TextRefusal, parse};
 use abc_print::print_program;
 use abc_run_text::solo_text;
@@ -23,6 +24,7 @@ use std::alloc::Global;
 /// The answer of a text, whose bytes these are.
 pub fn text_answer(alloc: Global, command: Command, bytes: &[u8]) -> Answer
     requires built { ReadsText (Some command) }
+    requires within { IsWithin command }
     requires few { length bytes.now < 2 ^ 32 }
     ensures { IsOfText command bytes.now result }
 {
@@ -45,11 +47,19 @@ fn refused(alloc: Global, place: u32, cause: Cause) -> Answer
 /// The answer of an accepted program.
 fn program_answer(alloc: Global, command: Command, program: &Program) -> Answer
     requires built { ReadsText (Some command) }
+    requires within { IsWithin command }
     requires checked { IsChecked program.now }
     ensures { IsOfProgram command program.now result }
 {
     match command {
         Command::Solo { limit, pick } => solo_answer(alloc, program, limit, pick),
+        Command::Net {
+            shape,
+            limit,
+            nodes,
+            workers: _,
+            pick,
+        } => network_answer(alloc, program, shape, limit, nodes, pick),
         Command::Print => print_answer(alloc, program),
         Command::Other => Answer::Refusal(Status::Unbuilt),
     }
@@ -68,8 +78,8 @@ fn solo_answer(alloc: Global, program: &Program, limit: u32, pick: u64) -> Answe
     requires checked { IsChecked program.now }
     ensures { IsOfProgram (command.Solo limit pick) program.now result }
 {
-    let components = program.components.len() as u32;
-    if u64::from(limit) * u64::from(components) > MOST_PRODUCT {
+    let components = components_of(program);
+    if is_too_much(limit, components) {
         return too_much(alloc, limit, components);
     }
     run_answer(alloc, program, limit, pick)
@@ -81,15 +91,6 @@ fn run_answer(alloc: Global, program: &Program, limit: u32, pick: u64) -> Answer
 {
     match solo_text(alloc, program, limit, pick) {
         Ok(text) => Answer::Text(text),
-        Err(NoMemory) => Answer::Refusal(Status::NoMemory),
-    }
-}
-
-fn too_much(alloc: Global, limit: u32, components: u32) -> Answer
-    ensures { IsLineOf (status.TooMuch limit components) result }
-{
-    match too_much_line(alloc, limit, components) {
-        Ok(line) => Answer::Line(Status::TooMuch { limit, components }, line),
         Err(NoMemory) => Answer::Refusal(Status::NoMemory),
     }
 }

@@ -1,12 +1,13 @@
-ghost use Rattle.std.specs.Prelude.{◌≡◌, ◌<◌, ◌≤◌, ◌↔◌, ◌⊎◌, ℕ, List, length, Some, None, IsErrOf, IfErr, OnErr, OnOk, take};
+ghost use Rattle.std.specs.Prelude.{◌≡◌, ◌<◌, ◌≤◌, ◌↔◌, ◌⊎◌, ℕ, length, Some, None, IfSome, take};
 ghost use Rattle.std.specs.Io.KnownBytes.{Appends, IsAtEnd};
 ghost use Rattle.abc_io.specs.Devices.{Rose};
 ghost use Rattle.abc_io.specs.Whole.{HasRead};
-ghost use Rattle.abc_runner.specs.Commands.{command_in};
+ghost use Rattle.abc_runner.specs.Commands.{command_in, IsWithin};
 ghost use Rattle.abc_runner.specs.Statuses.{line_of};
 ghost use Rattle.abc_runner.specs.declared.answer.Answer.{Answer};
 ghost use Rattle.abc_runner.specs.Outcomes.{Ends, EndsAs, IfWriteFault, IsCut, IsOfWholeText, IsRefusal, IsTextStatus, ReadsText, cut_short};
-ghost use Rattle.abc_runner.specs.Answers.{whole_of, due_of, IsAnswer, IsReadAnswer};
+ghost use Rattle.abc_runner.specs.Networks.{HandsOver, TellsNetwork};
+ghost use Rattle.abc_runner.specs.Answers.{whole_of, due_of, ran_of, IsAnswer, IsReadAnswer};
 
 use crate::answer::Answer;
 use crate::command::Command;
@@ -14,12 +15,15 @@ use crate::limits::MOST_SOURCE;
 use crate::status::Status;
 use crate::text::text_answer;
 use abc_io::{ReadRefusal, Sink, Source, read_all, write_whole};
+use abc_moves::Label;
+use abc_record_text::Record;
 use std::alloc::Global;
 
-/// How a call of `run` ended.
-#[derive(Clone, Copy, Debug, PartialEq, Eq)]
+/// How a call of `run` ended, and the record of the network that ran, if one did.
+#[derive(Drop)]
 pub struct Outcome {
     pub status: Status,
+    pub ran: Option<Record<Label>>,
 }
 
 /// Runs the command of the words: it reads the source, and writes what the command prints or the
@@ -31,10 +35,11 @@ pub fn run<S: Source, K: Sink>(
     source: &mut S,
     sink: &mut K,
 ) -> Outcome
-    // What the words and the source give, table by table, and how the writing of it ends.
+    // What the words and the source give, table by table, what ran, and how the writing ends.
     ensures answers { (answer : Answer)
         × IsAnswer (command_in words.now) answer
         (S.fault_count source.old) (S.fault_count source.new) (S.left source.old) (S.left source.new)
+        × (result.ran ≡ ran_of answer)
         × Ends (whole_of answer) (due_of answer) result.status
         (K.fault_count sink.old) (K.fault_count sink.new) (K.told sink.old) (K.told sink.new) }
 
@@ -75,11 +80,19 @@ pub fn run<S: Source, K: Sink>(
         × (answer : Answer)
         × IsAnswer (command_in words.now) answer
         (S.fault_count source.old) (S.fault_count source.new) (S.left source.old) (S.left source.new)
-        × (written < length (due_of answer))
+        × (result.ran ≡ ran_of answer) × (written < length (due_of answer))
         × Appends (K.told sink.old) (K.told sink.new) (take written (due_of answer))) }
     ensures no_memory { result.status ≡ Status.NoMemory
         → ReadsText (command_in words.now) × EndsAs Status.NoMemory result.status
         (K.fault_count sink.old) (K.fault_count sink.new) (K.told sink.old) (K.told sink.new) }
+
+    // A network. A record that is handed over is a legal one of the program and the network, and
+    // where all is done there is one, and what was written is the trace of a run of the calculus.
+    ensures ran { IfSome result.ran (λ ran. HandsOver (command_in words.now) result.status
+        (S.left source.old) (S.left source.new) ran) }
+    ensures network { result.status ≡ Status.Done
+        → TellsNetwork (command_in words.now) result.ran
+        (S.left source.old) (S.left source.new) (K.told sink.old) (K.told sink.new) }
 
     // With no fault, a source of at most the allowed bytes gives a text or the line of its refusal.
     ensures complete { ReadsText (command_in words.now)
@@ -90,7 +103,10 @@ pub fn run<S: Source, K: Sink>(
 {
     let answer = answer(alloc, words, source);
     let status = write_answer(sink, &answer);
-    Outcome { status }
+    Outcome {
+        status,
+        ran: ran(answer),
+    }
 }
 
 fn write_answer<K: Sink>(sink: &mut K, answer: &Answer) -> Status
@@ -107,7 +123,7 @@ fn due(answer: &Answer) -> &[u8]
     ensures { result.now ≡ due_of answer.now }
 {
     match answer {
-        Answer::Text(text) => text.as_slice(),
+        Answer::Text(text) | Answer::Trace(text, _) => text.as_slice(),
         Answer::Refusal(status) => status.fixed_line(),
         Answer::Line(_, line) => line.as_slice(),
     }
@@ -117,9 +133,19 @@ fn whole(answer: &Answer) -> Status
     ensures { result ≡ whole_of answer.now }
 {
     match answer {
-        Answer::Text(_) => Status::Done,
+        Answer::Text(_) | Answer::Trace(..) => Status::Done,
         Answer::Refusal(status) => *status,
         Answer::Line(status, _) => *status,
+    }
+}
+
+/// What ran, of an answer that is the trace of it.
+fn ran(answer: Answer) -> Option<Record<Label>>
+    ensures { result ≡ ran_of answer }
+{
+    match answer {
+        Answer::Trace(_, ran) => Some(ran),
+        Answer::Text(_) | Answer::Refusal(_) | Answer::Line(..) => None,
     }
 }
 
@@ -147,6 +173,7 @@ fn answer<S: Source>(alloc: Global, words: &[String], source: &mut S) -> Answer
 /// The answer to a command that reads the source.
 fn read_answer<S: Source>(alloc: Global, source: &mut S, command: Command) -> Answer
     requires built { ReadsText (Some command) }
+    requires within { IsWithin command }
     ensures { IsReadAnswer command result
         (S.fault_count source.old) (S.fault_count source.new) (S.left source.old) (S.left source.new) }
 {

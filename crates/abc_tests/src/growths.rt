@@ -1,8 +1,8 @@
 //! Runs in which one growth may be refused: with `rt try --test --fail-alloc N` the Nth one of each test.
 //! Whichever it is, the answer is the same as ever, or that memory ran out, which is then the whole line.
 use crate::scene::{
-    CANONICAL, CANONICAL_PRINT, GREETING, GREETING_TRACE, SOUND, list_of, sink_of, source_of,
-    words_of,
+    CANONICAL, CANONICAL_PRINT, GREETING, GREETING_TRACE, ONE_SPEAKER, RING_TRACE, SOUND, list_of,
+    sink_of, source_of, words_of,
 };
 use abc_io::{MemorySink, MemorySource};
 use abc_runner::{Status, run};
@@ -71,4 +71,15 @@ fn colouring(rt: HostRuntime) -> Result<(), Fail> {
 #[test]
 fn canonical_print(rt: HostRuntime) -> Result<(), Fail> {
     prints(&rt, rt.alloc(), "print", CANONICAL, CANONICAL_PRINT)
+}
+
+#[test]
+fn ring_of_one(rt: HostRuntime) -> Result<(), Fail> {
+    prints(
+        &rt,
+        rt.alloc(),
+        "run ring 10 1 1 0",
+        ONE_SPEAKER,
+        RING_TRACE,
+    )
 }

@@ -7,6 +7,8 @@ mod devices;
 #[cfg(test)]
 mod growths;
 #[cfg(test)]
+mod networks;
+#[cfg(test)]
 mod scene;
 #[cfg(test)]
 mod texts;

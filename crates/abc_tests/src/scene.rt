@@ -79,7 +79,16 @@ pub fn sink_of(alloc: Global, device: Device) -> Result<MemorySink, NoMemory> {
     MemorySink::new(alloc, 4096, device.piece(), failing)
 }
 
-/// Runs the words on a source of these bytes, and wants the status and what the sink holds then.
+/// One component that speaks once, and two that hear it.
+pub const ONE_SPEAKER: &str =
+    "abc 1;\ncomp a { show; run (1) @ (tt) . 0; }\ncomp b { show; run ? (tt) ($v) . [got := $v] 0; }\ncomp c { show; run ? (tt) ($v) . [got := $v] 0; }\n";
+
+/// What `run ring 10 1 1 0` prints of it.
+pub const RING_TRACE: &str =
+    "abc-trace 1 ring 10 1 0\n1 a:0 (1) @ (tt) -> b:0, c:0\nenv a {}\nenv b { got = 1; }\nenv c { got = 1; }\nnode 0 2\nquiet 1\n";
+
+/// Runs the words on a source of these bytes, and wants the status and what the sink holds then; whether a
+/// record was left.
 pub fn runs(
     rt: &impl Abort,
     alloc: Global,
@@ -87,7 +96,7 @@ pub fn runs(
     source: (List<u8>, Device),
     sink: Device,
     wanted: (Status, &str),
-) -> Result<(), Fail> {
+) -> Result<bool, Fail> {
     let words = words_of(alloc, line)?;
     let mut source = source_of(alloc, source.0, source.1)?;
     let mut sink = sink_of(alloc, sink)?;
@@ -95,5 +104,5 @@ pub fn runs(
     let (status, written) = wanted;
     assert_eq!(rt; outcome.status, status, "at {line:?}");
     assert_eq!(rt; sink.written(), written.as_bytes(), "what {line:?} wrote");
-    Ok(())
+    Ok(outcome.ran.is_some())
 }

@@ -19,7 +19,8 @@ fn answers(
     wanted: (Status, &str),
 ) -> Result<(), Fail> {
     let bytes = list_of(alloc, text.as_bytes())?;
-    runs(rt, alloc, line, (bytes, SOUND), SOUND, wanted)
+    runs(rt, alloc, line, (bytes, SOUND), SOUND, wanted)?;
+    Ok(())
 }
 
 /// The refusal of a text, and its line.
@@ -123,7 +124,8 @@ fn longest_source(rt: HostRuntime) -> Result<(), Fail> {
     runs(&rt, alloc, "solo 10 0", longest, SOUND, done)?;
     let longer = (greeting_of(alloc, 1_048_577)?, SOUND);
     let too_long = (Status::TooLong, "abc: source too long\n");
-    runs(&rt, alloc, "solo 10 0", longer, SOUND, too_long)
+    runs(&rt, alloc, "solo 10 0", longer, SOUND, too_long)?;
+    Ok(())
 }
 
 /// A text of so many components that do nothing.
@@ -162,6 +164,8 @@ fn limits_are_too_much(rt: HostRuntime) -> Result<(), Fail> {
     };
     let more = status_of(alloc, "solo 100000 0", 11)?;
     assert_eq!(rt; more, (too_much, true));
+    let network = status_of(alloc, "run tree 100000 1 1 0", 11)?;
+    assert_eq!(rt; network, (too_much, true));
     let printed = status_of(alloc, "print", 11)?;
     assert_eq!(rt; printed, (Status::Done, false));
     Ok(())

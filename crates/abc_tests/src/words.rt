@@ -1,15 +1,12 @@
 //! Words: which are a command, and which.
 use crate::scene::words_of;
-use abc_runner::Command;
+use abc_runner::{Command, Shape};
 use abc_value::NoMemory;
 use std::alloc::Global;
 use std::test::Fail;
 
 /// Words that are a command which is not built, a line for each.
-const OTHERS: &str = "run cluster 1 1 1 0
-run ring 100000 64 16 4294967295
-run tree 10 7 4 0
-gen 0 2 cluster
+const OTHERS: &str = "gen 0 2 cluster
 gen 65536 64 tree";
 
 /// Words that are no command, a line for each; the first has none.
@@ -64,10 +61,34 @@ fn read(alloc: Global, line: &str) -> Result<Option<Command>, NoMemory> {
 #[test]
 fn commands_are_read(rt: HostRuntime) -> Result<(), Fail> {
     let solo = |limit: u32, pick: u64| Some(Command::Solo { limit, pick });
+    let least = Command::Net {
+        shape: Shape::Cluster,
+        limit: 1,
+        nodes: 1,
+        workers: 1,
+        pick: 0,
+    };
+    let greatest = Command::Net {
+        shape: Shape::Ring,
+        limit: 100_000,
+        nodes: 64,
+        workers: 16,
+        pick: 4_294_967_295,
+    };
+    let tree = Command::Net {
+        shape: Shape::Tree,
+        limit: 10,
+        nodes: 7,
+        workers: 4,
+        pick: 0,
+    };
     for (line, command) in [
         ("solo 10 0", solo(10, 0)),
         ("solo 1 4294967295", solo(1, 4_294_967_295)),
         ("solo 100000 7", solo(100_000, 7)),
+        ("run cluster 1 1 1 0", Some(least)),
+        ("run ring 100000 64 16 4294967295", Some(greatest)),
+        ("run tree 10 7 4 0", Some(tree)),
         ("print", Some(Command::Print)),
     ] {
         assert_eq!(rt; read(rt.alloc(), line)?, command, "at {line:?}");

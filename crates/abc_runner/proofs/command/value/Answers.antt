@@ -1,4 +1,4 @@
-use Rattle.std.proofs.Common.{rules, ◌≡◌, ℕ, ◌<◌, Bool, true, false, not, ◌&&◌, length, List, subst, sym, refl, nat_lt, arith, ltb}
+use Rattle.std.proofs.Common.{rules, ◌≡◌, ℕ, ◌<◌, Bool, true, false, ◌&&◌, length, List, subst, sym, refl, nat_lt, arith}
 use Rattle.std.specs.Result.{OkIff, result_ok}
 use Rattle.std.specs.Option.{SomeIff}
 use Rattle.std.specs.declared.result.Result.{Result}
